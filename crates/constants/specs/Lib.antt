@@ -1,0 +1,4 @@
+pub mod Kind
+pub mod Table
+pub mod Processor
+pub mod Language

@@ -1,0 +1,236 @@
+// What is known of a record by its kind alone, and of a processor and a language by its code (pdb's src/symbol/constants.rs).
+//
+// A kind has a class, the record that it is decoded as, and a role, its part in a scope. Both lie packed in one byte of a table.
+mod table;
+
+use table::CLOSES;
+use table::CPU_TYPES;
+use table::OPENS;
+use table::code_of;
+ghost use mathlib.Core.Path.{_≡_};
+ghost use Rattle.constants.specs.Kind.{classOf, roleOf, startsScope, endsScope, nestingRole, isFiller, classNumber};
+ghost use Rattle.constants.specs.Processor.{cpuType};
+ghost use Rattle.constants.specs.Language.{sourceLanguage};
+
+// The kinds by which records of one class, or of none, are told apart, as cvinfo.h names them.
+pub const S_ALIGN: u16 = 0x0402; // used for page alignment
+
+pub const S_SKIP: u16 = 0x0007; // reserved space
+
+pub const S_ST_MAX: u16 = 0x1100; // the first kind whose names end in a zero byte
+
+pub const S_MANYREG2: u16 = 0x1117;
+
+pub const S_MANYREG2_ST: u16 = 0x1014;
+
+pub const S_GDATA32: u16 = 0x110d;
+
+pub const S_GDATA32_ST: u16 = 0x1008;
+
+pub const S_LMANDATA: u16 = 0x111c;
+
+pub const S_LMANDATA_ST: u16 = 0x1020;
+
+pub const S_GMANDATA: u16 = 0x111d;
+
+pub const S_GMANDATA_ST: u16 = 0x1021;
+
+pub const S_GPROC32: u16 = 0x1110;
+
+pub const S_GPROC32_ST: u16 = 0x100b;
+
+pub const S_GPROC32_ID: u16 = 0x1147;
+
+pub const S_LPROC32_DPC: u16 = 0x1155;
+
+pub const S_LPROC32_DPC_ID: u16 = 0x1156;
+
+pub const S_GTHREAD32: u16 = 0x1113;
+
+pub const S_GTHREAD32_ST: u16 = 0x100f;
+
+pub const S_COMPILE3: u16 = 0x113c;
+
+pub const S_PROCREF: u16 = 0x1125;
+
+pub const S_PROCREF_ST: u16 = 0x0400;
+
+pub const S_MANCONSTANT: u16 = 0x112d;
+
+pub const S_INLINESITE2: u16 = 0x115d;
+
+// What a record is decoded as, in the order of pdb's `SymbolData`. `Unknown` is a kind that is not read.
+pub enum Class {
+    Unknown,
+    ScopeEnd,
+    ObjName,
+    RegisterVariable,
+    Constant,
+    UserDefinedType,
+    MultiRegisterVariable,
+    Data,
+    Public,
+    Procedure,
+    ThreadStorage,
+    CompileFlags,
+    UsingNamespace,
+    ProcedureReference,
+    DataReference,
+    AnnotationReference,
+    Trampoline,
+    Export,
+    Local,
+    BuildInfo,
+    InlineSite,
+    InlineSiteEnd,
+    ProcedureEnd,
+    Label,
+    Block,
+    RegisterRelative,
+    Thunk,
+    SeparatedCode,
+}
+
+// Whether a record opens a scope or closes one.
+pub enum Role {
+    Neither,
+    Opens,
+    Closes,
+}
+
+// The classes and the roles by their numbers.
+const CLASSES: [Class; 28] = [
+    Class::Unknown,
+    Class::ScopeEnd,
+    Class::ObjName,
+    Class::RegisterVariable,
+    Class::Constant,
+    Class::UserDefinedType,
+    Class::MultiRegisterVariable,
+    Class::Data,
+    Class::Public,
+    Class::Procedure,
+    Class::ThreadStorage,
+    Class::CompileFlags,
+    Class::UsingNamespace,
+    Class::ProcedureReference,
+    Class::DataReference,
+    Class::AnnotationReference,
+    Class::Trampoline,
+    Class::Export,
+    Class::Local,
+    Class::BuildInfo,
+    Class::InlineSite,
+    Class::InlineSiteEnd,
+    Class::ProcedureEnd,
+    Class::Label,
+    Class::Block,
+    Class::RegisterRelative,
+    Class::Thunk,
+    Class::SeparatedCode,
+];
+
+const ROLES: [Role; 3] = [Role::Neither, Role::Opens, Role::Closes];
+
+// What records of this kind are decoded as.
+pub fn class_of(kind: u16) -> Class
+    ensures { λ r. ⌜ r ≡ classOf kind ⌝ }
+{
+    CLASSES[(code_of(kind) / 4) as usize]
+}
+
+// Whether records of this kind open or close a scope.
+pub fn role_of(kind: u16) -> Role
+    ensures { λ r. ⌜ r ≡ roleOf kind ⌝ }
+{
+    ROLES[(code_of(kind) % 4) as usize]
+}
+
+pub fn starts_scope(kind: u16) -> bool
+    ensures { λ r. ⌜ r ≡ startsScope kind ⌝ }
+{
+    code_of(kind) % 4 == OPENS
+}
+
+pub fn ends_scope(kind: u16) -> bool
+    ensures { λ r. ⌜ r ≡ endsScope kind ⌝ }
+{
+    code_of(kind) % 4 == CLOSES
+}
+
+// What the nesting check and the finders take a record for.
+pub fn nesting_role(kind: u16) -> Role
+    ensures { λ r. ⌜ r ≡ nestingRole kind ⌝ }
+{
+    role_of(kind)
+}
+
+// Whether a step passes over records of this kind.
+pub fn is_filler(kind: u16) -> bool
+    ensures { λ r. ⌜ r ≡ isFiller kind ⌝ }
+{
+    (kind == S_ALIGN) | (kind == S_SKIP)
+}
+
+// The number of a class, to print it or to compare two.
+pub fn class_number(c: Class) -> u8
+    ensures { λ r. ⌜ r ≡ classNumber c ⌝ }
+{
+    match c {
+        Class::Unknown => 0,
+        Class::ScopeEnd => 1,
+        Class::ObjName => 2,
+        Class::RegisterVariable => 3,
+        Class::Constant => 4,
+        Class::UserDefinedType => 5,
+        Class::MultiRegisterVariable => 6,
+        Class::Data => 7,
+        Class::Public => 8,
+        Class::Procedure => 9,
+        Class::ThreadStorage => 10,
+        Class::CompileFlags => 11,
+        Class::UsingNamespace => 12,
+        Class::ProcedureReference => 13,
+        Class::DataReference => 14,
+        Class::AnnotationReference => 15,
+        Class::Trampoline => 16,
+        Class::Export => 17,
+        Class::Local => 18,
+        Class::BuildInfo => 19,
+        Class::InlineSite => 20,
+        Class::InlineSiteEnd => 21,
+        Class::ProcedureEnd => 22,
+        Class::Label => 23,
+        Class::Block => 24,
+        Class::RegisterRelative => 25,
+        Class::Thunk => 26,
+        Class::SeparatedCode => 27,
+    }
+}
+
+// What an unknown processor and an unknown language read as.
+const INTEL8080: u16 = 0;
+
+const MASM: u8 = 3;
+
+// A known processor's code, and that of Intel8080 for another.
+pub fn cpu_type(code: u16) -> u16
+    ensures { λ r. ⌜ r ≡ cpuType code ⌝ }
+{
+    if code < 257 {
+        CPU_TYPES[code as usize]
+    } else {
+        INTEL8080
+    }
+}
+
+// A known language's code, and that of Masm for another.
+pub fn source_language(code: u8) -> u8
+    ensures { λ r. ⌜ r ≡ sourceLanguage code ⌝ }
+{
+    if (code <= 0x10) | (code == 0x44) {
+        code
+    } else {
+        MASM
+    }
+}

@@ -1,0 +1,55 @@
+-- `names::as_bytes` meets its contract.
+-- Assumes nothing.
+use borrow.Author.Needs.{needs}
+use Prim.Native.Nat.{_+_}
+use native.Mathlib.Omega.{arith}
+use native.Mathlib.Nat.{add-sub-cancel-left}
+use lib.ListN.{length}
+use denote.Ref.{now}
+use Rattle.common.proofs.Readers.{room}
+use Rattle.names.proofs.Names.{part-within, part-outside}
+use Rattle.names.proofs.as_bytes.Statement.{statement}
+use Rattle.names.proofs.as_bytes.Tie as tie
+
+has-room-requires : tie.Need-has-room-requires
+has-room-requires c κs = search needs
+
+add-result : tie.Need-add-result
+add-result c =
+    let a = c .before .before .before .args in
+    omega (arith, room (a .p .start + a .p .len) (length (now (a .s))) (c .before .has-room .ensures) (c .if1 .taken))
+
+sub-result : tie.Need-sub-result
+sub-result c = search needs
+
+part-result-start : tie.Need-part-result-start
+part-result-start c = search needs
+
+part-result-end : tie.Need-part-result-end
+part-result-end c =
+    let a = c .before .before .before .args in
+    room (a .p .start + a .p .len) (length (now (a .s))) (c .before .has-room .ensures) (c .if1 .taken)
+
+slice-aggregate-result : tie.Need-slice-aggregate-result
+slice-aggregate-result c = search needs
+
+returns : tie.Need-returns
+returns c =
+    let a = c .before .before .before .before .args in
+    rw (add-sub-cancel-left (a .p .start) (a .p .len)) (part-within _ (a .p) (c .before .before .has-room .ensures) (c .before .if1 .taken))
+
+returns-2 : tie.Need-returns-2
+returns-2 c = part-outside _ _ (c .before .before .has-room .ensures) (c .before .if1 .left)
+
+pub as-bytes-spec : {M : Type 1} → statement M
+as-bytes-spec =
+    tie.close
+    (tie.spec
+    has-room-requires
+    add-result
+    sub-result
+    part-result-start
+    part-result-end
+    slice-aggregate-result
+    returns
+    returns-2)

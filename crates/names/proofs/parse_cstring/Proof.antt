@@ -1,0 +1,40 @@
+-- `names::parse_cstring` meets its contract.
+-- Assumes nothing.
+use borrow.Author.Needs.{needs}
+use denote.Ref.{now}
+use native.Mathlib.Omega.{arith}
+use mathlib.Core.Path.{refl}
+use Rattle.names.proofs.Names.{cstring-value, cstring-short}
+use Rattle.names.proofs.parse_cstring.Statement.{statement}
+use Rattle.names.proofs.parse_cstring.Tie as tie
+
+returns : tie.Need-returns
+returns c =
+    let a = c .before .before .args in
+    cstring-short (now (a .s)) (a .at) refl (omega arith)
+
+before-zero-requires : tie.Need-before-zero-requires
+before-zero-requires c κs = search needs
+
+sub-if2 : tie.Need-sub-if2
+sub-if2 c = search needs
+
+add-t10 : tie.Need-add-t10
+add-t10 c = search needs
+
+add-t11 : tie.Need-add-t11
+add-t11 c = search needs
+
+returns-2 : tie.Need-returns-2
+returns-2 c =
+    let a = c .before .before .before .before .args in
+    cstring-value (now (a .s)) (a .at) (c .before .before-zero .ensures) (omega arith)
+
+returns-3 : tie.Need-returns-3
+returns-3 c =
+    let a = c .before .before .before .before .args in
+    cstring-short (now (a .s)) (a .at) (c .before .before-zero .ensures) (omega arith)
+
+pub parse-cstring-spec : {M : Type 1} → statement M
+parse-cstring-spec =
+    tie.close (tie.spec returns before-zero-requires sub-if2 add-t10 add-t11 returns-2 returns-3)
