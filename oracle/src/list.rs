@@ -26,7 +26,7 @@ pub struct Case {
     pub words: Vec<u64>,
 }
 
-const BLOCK: usize = 131_072;
+const BLOCK: usize = 262_144;
 
 pub struct Writer<W> {
     out: W,

@@ -148,6 +148,7 @@ pub fn grid(random: &mut Random) -> Vec<Question> {
     whole_and_cut(&mut questions, random);
     thunks(&mut questions, random);
     lists(&mut questions, random);
+    every_count(&mut questions, random);
     any_bodies(&mut questions, random);
     constants(&mut questions);
     large(&mut questions, random);
@@ -201,6 +202,19 @@ fn lists(questions: &mut Vec<Question>, random: &mut Random) {
                     questions.push(Question::new(Op::Register, k, record.clone()));
                 }
             }
+        }
+    }
+}
+
+/// Lists of every count that a byte holds, and the last entry asked for.
+fn every_count(questions: &mut Vec<Question>, random: &mut Random) {
+    for kind in kinds_of(REGISTERS) {
+        for count in 0usize..256 {
+            let list = registers(kind, count, count, random);
+            let record = [head(kind, random), list].concat();
+            questions.push(Question::new(Op::Decode, 0, record.clone()));
+            let last = count.saturating_sub(1);
+            questions.push(Question::new(Op::Register, last, record));
         }
     }
 }

@@ -17,8 +17,6 @@ pub const S_ALIGN: u16 = 0x0402; // used for page alignment
 
 pub const S_SKIP: u16 = 0x0007; // reserved space
 
-pub const S_ST_MAX: u16 = 0x1100; // the first kind whose names end in a zero byte
-
 pub const S_MANYREG2: u16 = 0x1117;
 
 pub const S_MANYREG2_ST: u16 = 0x1014;

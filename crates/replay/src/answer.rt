@@ -1,4 +1,5 @@
 // Our answers, as the words that the oracle writes: the number of the refusal, or 0 and the values.
+use answer_words::Words;
 use common::ParsedI16;
 use common::ParsedI32;
 use common::ParsedI64;
@@ -6,41 +7,12 @@ use common::ParsedU8;
 use common::ParsedU16;
 use common::ParsedU32;
 use common::ParsedU64;
-use common::Refusal;
+use iter::Next;
 use names::ParsedPart;
+use records::Decoded;
+use registers::ParsedEntry;
+use symbol_name::Named;
 use variant::ParsedVariant;
-use variant::Variant;
-
-// The words of an answer; those past `len` are 0.
-pub struct Words {
-    pub at: [u64; 24],
-    pub len: usize,
-}
-
-impl Words {
-    // An answer that has begun with 0.
-    fn new() -> Words {
-        Words {
-            at: [0; 24],
-            len: 1,
-        }
-    }
-
-    fn push(mut self, x: u64) -> Words {
-        let n = self.len;
-        if n < 24 {
-            self.at[n] = x;
-            self.len = n + 1;
-        }
-        self
-    }
-
-    fn refused(e: Refusal) -> Words {
-        let mut w = Words::new();
-        w.at[0] = e.number as u64;
-        w.push(e.position as u64).push(e.detail as u64)
-    }
-}
 
 fn unsigned(op: u64, s: &[u8], at: usize) -> Words {
     match op {
@@ -92,22 +64,11 @@ fn name(answered: ParsedPart) -> Words {
     }
 }
 
-// The variant's place in the Rust's enum, and its value.
-fn with_variant(w: Words, v: Variant) -> Words {
-    match v {
-        Variant::U8(x) => w.push(0).push(x as u64),
-        Variant::U16(x) => w.push(1).push(x as u64),
-        Variant::U32(x) => w.push(2).push(x as u64),
-        Variant::U64(x) => w.push(3).push(x),
-        Variant::I16(x) => w.push(5).push(words::i16_word(x)),
-        Variant::I32(x) => w.push(6).push(words::i32_word(x)),
-        Variant::I64(x) => w.push(7).push(words::i64_word(x)),
-    }
-}
-
 fn numeric(s: &[u8], at: usize) -> Words {
     match variant::parse_variant(s, at) {
-        ParsedVariant::Value(v, next) => with_variant(Words::new(), v).push(next as u64),
+        ParsedVariant::Value(v, next) => answer_words::with_variant(Words::new(), v).push(
+            next as u64,
+        ),
         ParsedVariant::Refused(e) => Words::refused(e),
     }
 }
@@ -117,6 +78,55 @@ fn kind(k: u16) -> Words {
         .push(constants::class_number(constants::class_of(k)) as u64)
         .push(words::truth(constants::starts_scope(k)))
         .push(words::truth(constants::ends_scope(k)))
+}
+
+fn decode(s: &[u8]) -> Words {
+    match symbol::decode(s) {
+        Decoded::Record(d, consumed) => answer_words::record(d, consumed),
+        Decoded::Refused(e) => Words::refused(e),
+    }
+}
+
+fn name_of(s: &[u8]) -> Words {
+    match symbol_name::name(s) {
+        Named::Answer(has) => Words::new().option_part(has),
+        Named::Refused(e) => Words::refused(e),
+    }
+}
+
+fn register(s: &[u8], k: usize) -> Words {
+    match register_entry::register_entry(s, k) {
+        ParsedEntry::Value(entry, _) => {
+            let name = entry.name;
+            Words::new().push(entry.register as u64).part(name)
+        }
+        ParsedEntry::Refused(e) => Words::refused(e),
+    }
+}
+
+fn scope(s: &[u8]) -> Words {
+    Words::new()
+        .push(kind::raw_kind(s) as u64)
+        .push(words::truth(kind::starts_scope(s)))
+        .push(words::truth(kind::ends_scope(s)))
+}
+
+fn step(s: &[u8], at: usize) -> Words {
+    match iter::step(s, at) {
+        Next::End(position) => Words::new().push(0).push(position as u64),
+        Next::Refused(e) => Words::refused(e),
+        Next::Record {
+            index,
+            start,
+            len,
+            next,
+        } => Words::new()
+            .push(1)
+            .push(index as u64)
+            .push(start as u64)
+            .push(len as u64)
+            .push(next as u64),
+    }
 }
 
 // An operation that we do not have is answered by a lone 0, which no answer of the oracle is.
@@ -131,6 +141,11 @@ pub fn answer(op: u64, arg: u64, s: &[u8]) -> Words {
         16 => kind((arg % 0x10000) as u16),
         17 => Words::new().push(constants::cpu_type((arg % 0x10000) as u16) as u64),
         18 => Words::new().push(constants::source_language((arg % 0x100) as u8) as u64),
+        32 => step(s, at),
+        33 => decode(s),
+        34 => name_of(s),
+        35 => register(s, at),
+        36 => scope(s),
         _ => Words::new(),
     }
 }

@@ -1,5 +1,5 @@
 // The list: blocks of cases, filled up with zeros, each case an operation, its argument, the bytes it is asked about and the oracle's answer in words.
-use crate::answer::Words;
+use answer_words::Words;
 
 // How many cases were replayed and how many of our answers differ; the first that does, counted from 1; whether the list is over.
 pub struct Tally {

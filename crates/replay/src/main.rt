@@ -10,10 +10,10 @@ mod list;
 use list::Tally;
 
 // A block of the list. The `ensures` gives only the length, which lending it as a slice needs.
-fn block_room() -> [u8; 131072]
-    ensures { λ r. ⌜ 131072 ≡ length r ⌝ }
+fn block_room() -> [u8; 262144]
+    ensures { λ r. ⌜ 262144 ≡ length r ⌝ }
 {
-    [0; 131072]
+    [0; 262144]
 }
 
 // Replays one block of the list; an input that ends, ends the list.

@@ -19,7 +19,7 @@ pub fn i32_word(x: i32) -> u64
 pub fn i16_word(x: i16) -> u64
     ensures { λ r. ⌜ signed 64 r ≡ x ⌝ }
 {
-    i64_word(x as i64)
+    i32_word(x as i32)
 }
 
 pub fn truth(b: bool) -> u64

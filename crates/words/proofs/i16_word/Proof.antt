@@ -2,20 +2,20 @@
 -- Assumes nothing.
 use borrow.Author.Needs.{needs}
 use mathlib.Core.Path.{_∙_}
-use mir.Syntax.{w16, w64}
+use mir.Syntax.{w16, w32}
 use mir.Facts.{toZ-ofZ, sfits-widen}
 use mir.Syntax.{w16}
 use Rattle.words.proofs.i16_word.Statement.{statement}
 use Rattle.words.proofs.i16_word.Tie as tie
 
-cast-i64-word : tie.Need-cast-i64-word
-cast-i64-word c = let f = c .fits .x in rw (toZ-ofZ f) (sfits-widen {w = w16} tt f)
+cast-i32-word : tie.Need-cast-i32-word
+cast-i32-word c = let f = c .fits .x in rw (toZ-ofZ f) (sfits-widen {w = w16} tt f)
 
-i64-word-requires : tie.Need-i64-word-requires
-i64-word-requires c κs = search needs
+i32-word-requires : tie.Need-i32-word-requires
+i32-word-requires c κs = search needs
 
 returns : tie.Need-returns
-returns c = let f = c .before .fits .x in c .i64-word .ensures ∙ rw (toZ-ofZ f) (toZ-ofZ {w = w64} (sfits-widen {w = w16} tt f))
+returns c = let f = c .before .fits .x in c .i32-word .ensures ∙ rw (toZ-ofZ f) (toZ-ofZ {w = w32} (sfits-widen {w = w16} tt f))
 
 pub i16-word-spec : {M : Type 1} → statement M
-i16-word-spec = tie.close (tie.spec cast-i64-word i64-word-requires returns)
+i16-word-spec = tie.close (tie.spec cast-i32-word i32-word-requires returns)

@@ -1,0 +1,120 @@
+-- Laws of `frameAt`, `stepFrom` and `stepOf`.
+-- Assumes nothing.
+use mathlib.Core.Path.{_≡_, refl, sym, _∙_, ap}
+use mathlib.Core.List.{List}
+use mathlib.Core.Bool.{Bool, true, false, cond}
+use Prim.Native.Nat.{ℕ, zero, suc, _+_, _-_, _≤_, _<_}
+use native.Mathlib.Omega.{arith}
+use native.Mathlib.Nat.{zero-add, add-zero}
+use lib.ListN.{length}
+use lib.Dec.{ltb, leb}
+use borrow.Author.Tests.{leb-false, leb-true, ltb-false, ltb-true, le-ltb, lt-ltb}
+use Rattle.common.specs.Bytes.{le}
+use Rattle.common.specs.Reader.{refusal}
+use Rattle.common.specs.declared.Refusal.{Refusal}
+use Rattle.constants.specs.Kind.{isFiller}
+use Rattle.iter.specs.Step.{frameAt, plain, passOver, onKind, onFrame, scanFrom, within, scanOf}
+use Rattle.iter.specs.declared.Frame.{Frame}
+use Rattle.iter.specs.declared.Frame.the-variants as F
+use Rattle.iter.specs.declared.Scan.{Scan}
+use Rattle.iter.specs.declared.Next.{Next}
+use Rattle.iter.specs.declared.Next.the-variants.{End, Refused, Record}
+
+-- a whole frame lies within the stream, and its record has at least two bytes
+pub record Fits (s : List ℕ) (p len : ℕ) : Type 0 where
+  pub within : p + 2 + len ≤ length s
+  pub least : 2 ≤ len
+
+pub whole-fits : (s : List ℕ) (p kind len : ℕ) → frameAt s p ≡ F.Whole kind len → Fits s p len
+unfolding frameAt
+whole-fits s p kind len = go (leb (length s) p) refl (ltb (length s - p) 2) refl (ltb (le 2 s p) 2) refl (ltb (length s - (p + 2)) (le 2 s p)) refl
+  where
+    go :
+        (a : Bool) → leb (length s) p ≡ a →
+        (b : Bool) → ltb (length s - p) 2 ≡ b →
+        (d : Bool) → ltb (le 2 s p) 2 ≡ d →
+        (f : Bool) → ltb (length s - (p + 2)) (le 2 s p) ≡ f →
+        cond a F.Nothing (cond b (F.Refused (refusal 1 p 0)) (cond d (F.Refused (refusal 2 (p + 2) 0)) (cond f (F.Refused (refusal 1 (p + 2) 0)) (F.Whole (le 2 s (p + 2)) (le 2 s p))))) ≡ F.Whole kind len →
+        Fits s p len
+    go true ea b eb d ed f ef e = let z : _≡_ {A = ℕ} 0 1 = cc in omega arith
+    go false ea true eb d ed f ef e = let z : _≡_ {A = ℕ} 0 1 = cc in omega arith
+    go false ea false eb true ed f ef e = let z : _≡_ {A = ℕ} 0 1 = cc in omega arith
+    go false ea false eb false ed true ef e = let z : _≡_ {A = ℕ} 0 1 = cc in omega arith
+    go false ea false eb false ed false ef e =
+        let z : le 2 s p ≡ len = cc in
+        omega (arith, leb-false, ltb-false)
+
+-- The loop's invariant: a step that answers r comes by p, when it has passed over so many records and bytes.
+pub record Comes (s : List ℕ) (r : Scan) (p passed skipped : ℕ) : Type 0 where
+  pub within : p ≤ length s
+  pub fuel : ℕ
+  pub enough : length s < p + fuel
+  pub nexts : scanFrom fuel s p .next ≡ r .next
+  pub counts : scanFrom fuel s p .passed + passed ≡ r .passed
+  pub skips : scanFrom fuel s p .skipped + skipped ≡ r .skipped
+  pub few : passed ≤ p
+  pub low : skipped ≤ p
+
+-- one frame of a step, with the fuel that is left
+record Turn (s : List ℕ) (r : Scan) (p passed skipped : ℕ) : Type 0 where
+  fuel : ℕ
+  enough : length s ≤ p + fuel
+  nexts : onFrame p (frameAt s p) (λ q. scanFrom fuel s q) .next ≡ r .next
+  counts : onFrame p (frameAt s p) (λ q. scanFrom fuel s q) .passed + passed ≡ r .passed
+  skips : onFrame p (frameAt s p) (λ q. scanFrom fuel s q) .skipped + skipped ≡ r .skipped
+
+module _ (s : List ℕ) (r : Scan) (p passed skipped : ℕ) (h : Comes s r p passed skipped) where
+  turn : Turn s r p passed skipped
+  unfolding scanFrom
+  turn = go (h .fuel) (h .enough) (h .nexts) (h .counts) (h .skips)
+    where
+      go : (k : ℕ) → length s < p + k → scanFrom k s p .next ≡ r .next → scanFrom k s p .passed + passed ≡ r .passed →
+          scanFrom k s p .skipped + skipped ≡ r .skipped → Turn s r p passed skipped
+      go zero l en ec es = absurd (omega (arith, h .within))
+      go (suc k) l en ec es = record { fuel = k; enough = omega arith; nexts = en; counts = ec; skips = es }
+
+  -- the answer, where the frame ends the step with n
+  pub ends : (f : Frame) (n : Next) → frameAt s p ≡ f → ((on : ℕ → Scan) → onFrame p f on ≡ plain n) → record { passed = passed; skipped = skipped; next = n } ≡ r
+  ends f n e is =
+      let x = ap (λ (g : Frame). onFrame p g (λ q. scanFrom (turn .fuel) s q)) e ∙ is (λ q. scanFrom (turn .fuel) s q) in
+      let a : passed ≡ r .passed = sym (zero-add passed) ∙ (rw x at (turn .counts)) in
+      let b : skipped ≡ r .skipped = sym (zero-add skipped) ∙ (rw x at (turn .skips)) in
+      let d : n ≡ r .next = rw x at (turn .nexts) in
+      λ i. record { passed = a i; skipped = b i; next = d i }
+
+  pub at-nothing : frameAt s p ≡ F.Nothing → record { passed = passed; skipped = skipped; next = End p } ≡ r
+  at-nothing e = ends F.Nothing (End p) e (λ on. refl)
+
+  pub at-refused : (x : Refusal) → frameAt s p ≡ F.Refused x → record { passed = passed; skipped = skipped; next = Refused x } ≡ r
+  at-refused x e = ends (F.Refused x) (Refused x) e (λ on. refl)
+
+  pub at-record : (kind len : ℕ) → frameAt s p ≡ F.Whole kind len → isFiller kind ≡ false →
+      record { passed = passed; skipped = skipped; next = Record p (p + 2) len (p + 2 + len) } ≡ r
+  at-record kind len e f = ends (F.Whole kind len) (Record p (p + 2) len (p + 2 + len)) e (λ on. ap (λ (b : Bool). onKind b p len on) f)
+
+  pub at-filler : (kind len : ℕ) → frameAt s p ≡ F.Whole kind len → isFiller kind ≡ true → Comes s r (p + 2 + len) (passed + 1) (skipped + (2 + len))
+  at-filler kind len e f =
+      let w = whole-fits s p kind len e in
+      let x = ap (λ (g : Frame). onFrame p g (λ q. scanFrom (turn .fuel) s q)) e ∙ ap (λ (b : Bool). onKind b p len (λ q. scanFrom (turn .fuel) s q)) f in
+      let a : scanFrom (turn .fuel) s (p + 2 + len) .passed + 1 + passed ≡ r .passed = rw x at (turn .counts) in
+      let b : scanFrom (turn .fuel) s (p + 2 + len) .skipped + (2 + len) + skipped ≡ r .skipped = rw x at (turn .skips) in
+      record {
+        within = w .within;
+        fuel = turn .fuel;
+        enough = omega (arith, turn .enough, w);
+        nexts = rw x at (turn .nexts);
+        counts = omega (arith, a);
+        skips = omega (arith, b);
+        few = omega (arith, h .few);
+        low = omega (arith, h .low);
+      }
+
+pub comes-inside : (s : List ℕ) (at : ℕ) → length s ≤ 4294967295 → at < length s → Comes s (scanOf s at) at 0 0
+unfolding scanOf
+comes-inside s at fits l = rw (le-ltb _ _ fits, lt-ltb _ _ l)
+    (record { within = omega arith; fuel = suc (length s); enough = omega arith; nexts = refl; counts = add-zero _; skips = add-zero _; few = omega arith; low = omega arith })
+
+pub comes-past : (s : List ℕ) (at : ℕ) → length s ≤ 4294967295 → length s ≤ at → Comes s (scanOf s at) (length s) 0 0
+unfolding scanOf
+comes-past s at fits l = rw (le-ltb _ _ fits, le-ltb _ _ l)
+    (record { within = omega arith; fuel = suc (length s); enough = omega arith; nexts = refl; counts = add-zero _; skips = add-zero _; few = omega arith; low = omega arith })

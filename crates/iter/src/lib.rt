@@ -1,0 +1,136 @@
+// Reading a stream of records one step at a time (pdb's SymbolIter: seek, then next).
+ghost use mathlib.Core.Path.{_≡_};
+ghost use Rattle.iter.specs.Step.{frameAt, scanOf, stepOf};
+ghost use Rattle.common.specs.Reader.{refusal};
+use common::Refusal;
+
+// The longest stream that is read.
+pub const MAX_STREAM: usize = 0xffff_ffff;
+
+// What stands at a position: nothing, a record of a kind and a length behind its length field, or a refusal.
+pub enum Frame {
+    Nothing,
+    Refused(Refusal),
+    Whole { kind: u16, len: usize },
+}
+
+fn refused(number: u8, position: usize) -> Refusal
+    ensures { λ r. ⌜ r ≡ refusal number position 0 ⌝ }
+{
+    Refusal {
+        number,
+        position,
+        detail: 0,
+    }
+}
+
+fn frame_at(s: &[u8], at: usize) -> Frame
+    ensures { λ r. ⌜ r ≡ frameAt (now (s .entry)) at ⌝ }
+{
+    let n = s.len();
+    if n <= at {
+        return Frame::Nothing;
+    }
+    if n - at < 2 {
+        return Frame::Refused(refused(1, at));
+    }
+    let len = common::u16_at(s, at) as usize;
+    let body = at + 2;
+    if len < 2 {
+        return Frame::Refused(refused(2, body));
+    }
+    if n - body < len {
+        return Frame::Refused(refused(1, body));
+    }
+    let kind = common::u16_at(s, body);
+    Frame::Whole { kind, len }
+}
+
+// Where a step ends: at the end of the stream, at a refusal, or at a record: the position of its length field, its bytes, kind
+// first, and the position after it.
+pub enum Next {
+    End(usize),
+    Refused(Refusal),
+    Record {
+        index: usize,
+        start: usize,
+        len: usize,
+        next: usize,
+    },
+}
+
+// A step, with how many fillers it passed over and their bytes, length fields included.
+pub struct Scan {
+    pub passed: usize,
+    pub skipped: usize,
+    pub next: Next,
+}
+
+pub fn scan_at(s: &[u8], at: usize) -> Scan
+    ensures { λ r. ⌜ r ≡ scanOf (now (s .entry)) at ⌝ }
+{
+    let n = s.len();
+    let mut passed: usize = 0;
+    let mut skipped: usize = 0;
+    if MAX_STREAM < n {
+        let next = Next::Refused(refused(5, 0));
+        return Scan {
+            passed,
+            skipped,
+            next,
+        };
+    }
+    let mut p = n;
+    if at < n {
+        p = at;
+    }
+    loop {
+        match frame_at(s, p) {
+            Frame::Nothing => {
+                let next = Next::End(p);
+                return Scan {
+                    passed,
+                    skipped,
+                    next,
+                };
+            }
+            Frame::Refused(e) => {
+                let next = Next::Refused(e);
+                return Scan {
+                    passed,
+                    skipped,
+                    next,
+                };
+            }
+            Frame::Whole { kind, len } => {
+                let start = p + 2;
+                let after = start + len;
+                if constants::is_filler(kind) {
+                    p = after;
+                    passed = passed + 1;
+                    skipped = skipped + (2 + len);
+                } else {
+                    let next = Next::Record {
+                        index: p,
+                        start,
+                        len,
+                        next: after,
+                    };
+                    return Scan {
+                        passed,
+                        skipped,
+                        next,
+                    };
+                }
+            }
+        }
+    }
+}
+
+// One step from a position.
+pub fn step(s: &[u8], at: usize) -> Next
+    ensures { λ r. ⌜ r ≡ stepOf (now (s .entry)) at ⌝ }
+{
+    let c = scan_at(s, at);
+    c.next
+}

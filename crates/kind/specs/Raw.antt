@@ -1,0 +1,10 @@
+-- Kind, opener, closer (document 01): never refuse, at any length; below 2 bytes the kind is 0.
+use Prim.Native.Nat.{ℕ}
+use mathlib.Core.List.{List}
+use mathlib.Core.Bool.{cond}
+use lib.ListN.{length}
+use lib.Dec.{ltb}
+use Rattle.common.specs.Bytes.{le}
+
+unfoldable pub rawKind : List ℕ → ℕ
+rawKind s = cond (ltb (length s) 2) 0 (le 2 s 0)

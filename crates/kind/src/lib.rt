@@ -1,0 +1,26 @@
+// What the kind of a record says of it (pdb's Symbol: raw_kind, starts_scope, ends_scope). These never refuse, at any length.
+ghost use mathlib.Core.Path.{_≡_};
+ghost use Rattle.constants.specs.Kind.{startsScope, endsScope};
+ghost use Rattle.kind.specs.Raw.{rawKind};
+
+// The kind; 0 below 2 bytes.
+pub fn raw_kind(s: &[u8]) -> u16
+    ensures { λ r. ⌜ r ≡ rawKind (now (s .entry)) ⌝ }
+{
+    if s.len() < 2 {
+        return 0;
+    }
+    common::u16_at(s, 0)
+}
+
+pub fn starts_scope(s: &[u8]) -> bool
+    ensures { λ r. ⌜ r ≡ startsScope (rawKind (now (s .entry))) ⌝ }
+{
+    constants::starts_scope(raw_kind(s))
+}
+
+pub fn ends_scope(s: &[u8]) -> bool
+    ensures { λ r. ⌜ r ≡ endsScope (rawKind (now (s .entry))) ⌝ }
+{
+    constants::ends_scope(raw_kind(s))
+}

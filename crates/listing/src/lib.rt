@@ -1,0 +1,118 @@
+// The listing of a stream: for each record a line with its index, its kind and its name.
+//
+// No contract can say what is printed. How the bytes of a name are shown can be said without printing: see `shown` and `show`.
+ghost use mathlib.Core.Path.{_≡_};
+ghost use mathlib.Core.List.{map};
+ghost use Prim.Native.Nat.{_-_, _≤_, min};
+ghost use lib.ListN.{length, take, drop};
+ghost use Rattle.io.specs.Counts.{Counts};
+ghost use Rattle.listing.specs.Shown.{shownByte};
+use iter::Next;
+use records::OptionPart;
+use symbol_name::Named;
+
+// The longest stream that is listed.
+const MAX_LISTED: usize = 65536;
+
+// Room for a stream, and for the byte that makes it too long. The `ensures` gives only the length, which lending it as a slice needs.
+pub fn stream_room() -> [u8; MAX_LISTED + 1]
+    ensures { λ r. ⌜ 65537 ≡ length r ⌝ }
+{
+    [0; MAX_LISTED + 1]
+}
+
+fn shown(b: u8) -> u8
+    ensures { λ r. ⌜ r ≡ shownByte b ⌝ }
+{
+    if (0x21 <= b) & (b <= 0x7e) { b } else { b'?' }
+}
+
+// Puts the bytes of a name from a position on, as they are shown, into a piece, as many as it holds, and answers how many.
+fn show(name: &[u8], from: usize, piece: &mut [u8]) -> usize
+    requires { ⌜ from ≤ length (now name) ⌝ }
+    ensures { λ r. ⌜ Counts r (now (piece .exit)) ⌝ }
+    ensures { λ r. ⌜ r ≡ min (length (now (piece .exit))) (length (now (name .entry)) - from) ⌝ }
+    ensures { λ r. ⌜ take r (now (piece .exit)) ≡ map shownByte (take r (drop from (now (name .entry)))) ⌝ }
+{
+    let mut n = name.len() - from;
+    if piece.len() < n {
+        n = piece.len();
+    }
+    let mut i = 0;
+    while i < n {
+        piece[i] = shown(name[from + i]);
+        i += 1;
+    }
+    n
+}
+
+fn print_shown(name: &[u8]) {
+    let mut space = [0u8; 64];
+    let piece: &mut [u8] = &mut space;
+    let mut at = 0;
+    while at < name.len() {
+        let n = show(name, at, piece);
+        io::write_all(1, &piece[..n]);
+        at += n;
+    }
+}
+
+// The name of a record, `-` where it has none, `!` and the number where it is refused.
+fn print_name(record: &[u8]) {
+    match symbol_name::name(record) {
+        Named::Answer(has) => match has {
+            OptionPart::Some(_) => print_shown(symbol_name::name_bytes(record)),
+            OptionPart::None => {
+                io::write_all(1, b"-");
+            }
+        },
+        Named::Refused(e) => {
+            io::write_all(1, b"!");
+            io::print_decimal(1, e.number as u64);
+        }
+    }
+}
+
+fn print_record(index: usize, record: &[u8]) {
+    io::print_decimal(1, index as u64);
+    io::write_all(1, b" ");
+    io::print_hex(1, kind::raw_kind(record) as u64, 4);
+    io::write_all(1, b" ");
+    print_name(record);
+    io::write_all(1, b"\n");
+}
+
+fn print_refused(number: u8, position: usize) {
+    io::write_all(1, b"refused ");
+    io::print_decimal(1, number as u64);
+    io::write_all(1, b" ");
+    io::print_decimal(1, position as u64);
+    io::write_all(1, b"\n");
+}
+
+// Prints the listing of a stream, from behind its signature on, to standard output.
+pub fn print_listing(s: &[u8]) {
+    if MAX_LISTED < s.len() {
+        print_refused(5, 0);
+        return;
+    }
+    let mut at: usize = 4;
+    loop {
+        match iter::step(s, at) {
+            Next::End(_) => return,
+            Next::Refused(e) => {
+                print_refused(e.number, e.position);
+                return;
+            }
+            Next::Record {
+                index,
+                start,
+                len,
+                next,
+            } => {
+                print_record(index, &s[start..start + len]);
+                at = next;
+            }
+        }
+    }
+}

@@ -1,0 +1,27 @@
+-- Fields that stand for something else than their number (document 01, "Record layouts").
+use Prim.Native.Nat.{ℕ, _-_}
+use mathlib.Core.Bool.{cond}
+use lib.Dec.{eqb}
+use Rattle.records.specs.declared.OptionU16.{OptionU16}
+use Rattle.records.specs.declared.OptionU16.the-variants as U16
+use Rattle.records.specs.declared.OptionU32.{OptionU32}
+use Rattle.records.specs.declared.OptionU32.the-variants as U32
+use Rattle.records.specs.declared.SectionOffset.{SectionOffset}
+use Rattle.records.specs.declared.TrampolineType.{TrampolineType}
+use Rattle.records.specs.declared.TrampolineType.the-variants.{Incremental, BranchIsland, Unknown}
+
+-- parents and nexts of 0 mean none
+unfoldable pub indexOf : ℕ → OptionU32
+indexOf x = cond (eqb x 0) U32.None (U32.Some x)
+
+-- module u16 (0 none, else less one)
+unfoldable pub moduleOf : ℕ → OptionU16
+moduleOf x = cond (eqb x 0) U16.None (U16.Some (x - 1))
+
+-- "place" is u32 offset, u16 section
+abbrev pub place : ℕ → ℕ → SectionOffset
+place offset section = record { offset = offset; section = section }
+
+-- 0 incremental, 1 branch island, else unknown (TRAMP_e)
+unfoldable pub trampolineOf : ℕ → TrampolineType
+trampolineOf x = cond (eqb x 0) Incremental (cond (eqb x 1) BranchIsland Unknown)

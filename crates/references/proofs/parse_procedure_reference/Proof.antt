@@ -1,0 +1,69 @@
+-- `references::parse_procedure_reference` meets its contract.
+-- Assumes nothing.
+use borrow.Author.Needs.{needs}
+use mathlib.Core.Path.{sym, ap, _∙_}
+use denote.Ref.{now}
+use Rattle.references.specs.Reference.{optionalName, procedureReference, procedureReferenceOf}
+use Rattle.references.specs.Answer.{optionalOf}
+use Rattle.references.proofs.Rows.{reference-value, reference-refused, reference-short}
+use Rattle.references.proofs.parse_procedure_reference.Statement.{statement}
+use Rattle.references.proofs.parse_procedure_reference.Tie as tie
+
+returns : tie.Need-returns
+unfolding procedureReference
+returns c =
+    let a = c .before .before .args in
+    reference-short (optionalName (a .kind)) (procedureReferenceOf (a .kind)) (now (a .s)) 2 (c .if1 .taken)
+
+parse-optional-name-requires : tie.Need-parse-optional-name-requires
+parse-optional-name-requires c κs = search needs
+
+enum-known-name : tie.Need-enum-known-name
+enum-known-name c = search needs
+
+u32-at-requires : tie.Need-u32-at-requires
+u32-at-requires c κs = search needs
+
+u32-at-requires-2 : tie.Need-u32-at-requires-2
+u32-at-requires-2 c κs = search needs
+
+u16-at-requires : tie.Need-u16-at-requires
+u16-at-requires c κs = search needs
+
+module-of-requires : tie.Need-module-of-requires
+module-of-requires c κs = search needs
+
+enum-known-e : tie.Need-enum-known-e
+enum-known-e c = search needs
+
+returns-2 : tie.Need-returns-2
+unfolding procedureReference
+returns-2 c =
+    let r = c .before .before .before in
+    let n = r .before .before in
+    let p = n .before .before in
+    let a = p .before .before .before .args in
+    rw (c .module-of .ensures, c .before .u16-at .ensures, c .before .before .u32-at2 .ensures, r .u32-at .ensures)
+    (reference-value (optionalName (a .kind)) (procedureReferenceOf (a .kind)) (now (a .s)) 2 (p .before .if1 .left) (sym (ap optionalOf (n .name .given .1)) ∙ p .parse-optional-name .ensures))
+
+returns-3 : tie.Need-returns-3
+unfolding procedureReference
+returns-3 c =
+    let p = c .before .before .before in
+    let a = p .before .before .before .args in
+    reference-refused (optionalName (a .kind)) (procedureReferenceOf (a .kind)) (now (a .s)) 2 (p .before .if1 .left) (sym (ap optionalOf (c .before .e .given .1)) ∙ p .parse-optional-name .ensures)
+
+pub parse-procedure-reference-spec : {M : Type 1} → statement M
+parse-procedure-reference-spec =
+    tie.close
+    (tie.spec
+    returns
+    parse-optional-name-requires
+    enum-known-name
+    u32-at-requires
+    u32-at-requires-2
+    u16-at-requires
+    module-of-requires
+    enum-known-e
+    returns-2
+    returns-3)

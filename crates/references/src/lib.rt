@@ -1,0 +1,142 @@
+// The records that other modules look names up by: publics, exports, and references to what another module holds.
+ghost use mathlib.Core.Path.{_≡_};
+ghost use Rattle.records.specs.Answer.{decodedOf};
+ghost use Rattle.references.specs.Reference.{publicSymbol, exportSymbol, optionalName, procedureReference, dataReference, annotationReference};
+ghost use Rattle.references.specs.Answer.{optionalOf};
+use common::Refusal;
+use constants::S_PROCREF;
+use constants::S_PROCREF_ST;
+use names::ParsedPart;
+use names::S_ST_MAX;
+use records::AnnotationReferenceSymbol;
+use records::DataReferenceSymbol;
+use records::Decoded;
+use records::ExportSymbol;
+use records::ExportSymbolFlags;
+use records::OptionPart;
+use records::ProcedureReferenceSymbol;
+use records::PublicFlags;
+use records::PublicSymbol;
+use records::SectionOffset;
+use records::SymbolData;
+
+pub fn parse_public(s: &[u8], kind: u16) -> Decoded
+    ensures { λ r. ⌜ decodedOf r ≡ publicSymbol kind (now (s .entry)) 2 ⌝ }
+{
+    if s.len() < 12 {
+        return Decoded::Refused(Refusal::UNEXPECTED_EOF);
+    }
+    match names::parse_symbol_name(s, 12, kind) {
+        ParsedPart::Value(name, next) => {
+            let data = PublicSymbol {
+                flags: PublicFlags::from_bits(common::u32_at(s, 2)),
+                offset: SectionOffset {
+                    offset: common::u32_at(s, 6),
+                    section: common::u16_at(s, 10),
+                },
+                name,
+            };
+            Decoded::Record(SymbolData::Public(data), next)
+        }
+        ParsedPart::Refused(e) => Decoded::Refused(e),
+    }
+}
+
+// What reading a name that may be missing answers: the name or none, and the position after it, or the refusal.
+pub enum ParsedOptionPart {
+    Value(OptionPart, usize),
+    Refused(Refusal),
+}
+
+// Kinds below S_ST_MAX do not specify a name.
+pub fn parse_optional_name(s: &[u8], at: usize, kind: u16) -> ParsedOptionPart
+    ensures { λ r. ⌜ optionalOf r ≡ optionalName kind (now (s .entry)) at ⌝ }
+{
+    if kind < S_ST_MAX {
+        return ParsedOptionPart::Value(OptionPart::None, at);
+    }
+    match names::parse_cstring(s, at) {
+        ParsedPart::Value(name, next) => ParsedOptionPart::Value(OptionPart::Some(name), next),
+        ParsedPart::Refused(e) => ParsedOptionPart::Refused(e),
+    }
+}
+
+pub fn parse_procedure_reference(s: &[u8], kind: u16) -> Decoded
+    ensures { λ r. ⌜ decodedOf r ≡ procedureReference kind (now (s .entry)) 2 ⌝ }
+{
+    if s.len() < 12 {
+        return Decoded::Refused(Refusal::UNEXPECTED_EOF);
+    }
+    match parse_optional_name(s, 12, kind) {
+        ParsedOptionPart::Value(name, next) => {
+            let data = ProcedureReferenceSymbol {
+                global: (kind == S_PROCREF) | (kind == S_PROCREF_ST),
+                sum_name: common::u32_at(s, 2),
+                symbol_index: common::u32_at(s, 6),
+                module: records::module_of(common::u16_at(s, 10)),
+                name,
+            };
+            Decoded::Record(SymbolData::ProcedureReference(data), next)
+        }
+        ParsedOptionPart::Refused(e) => Decoded::Refused(e),
+    }
+}
+
+pub fn parse_data_reference(s: &[u8], kind: u16) -> Decoded
+    ensures { λ r. ⌜ decodedOf r ≡ dataReference kind (now (s .entry)) 2 ⌝ }
+{
+    if s.len() < 12 {
+        return Decoded::Refused(Refusal::UNEXPECTED_EOF);
+    }
+    match parse_optional_name(s, 12, kind) {
+        ParsedOptionPart::Value(name, next) => {
+            let data = DataReferenceSymbol {
+                sum_name: common::u32_at(s, 2),
+                symbol_index: common::u32_at(s, 6),
+                module: records::module_of(common::u16_at(s, 10)),
+                name,
+            };
+            Decoded::Record(SymbolData::DataReference(data), next)
+        }
+        ParsedOptionPart::Refused(e) => Decoded::Refused(e),
+    }
+}
+
+pub fn parse_annotation_reference(s: &[u8], kind: u16) -> Decoded
+    ensures { λ r. ⌜ decodedOf r ≡ annotationReference kind (now (s .entry)) 2 ⌝ }
+{
+    if s.len() < 12 {
+        return Decoded::Refused(Refusal::UNEXPECTED_EOF);
+    }
+    match names::parse_symbol_name(s, 12, kind) {
+        ParsedPart::Value(name, next) => {
+            let data = AnnotationReferenceSymbol {
+                sum_name: common::u32_at(s, 2),
+                symbol_index: common::u32_at(s, 6),
+                module: records::module_of(common::u16_at(s, 10)),
+                name,
+            };
+            Decoded::Record(SymbolData::AnnotationReference(data), next)
+        }
+        ParsedPart::Refused(e) => Decoded::Refused(e),
+    }
+}
+
+pub fn parse_export(s: &[u8], kind: u16) -> Decoded
+    ensures { λ r. ⌜ decodedOf r ≡ exportSymbol kind (now (s .entry)) 2 ⌝ }
+{
+    if s.len() < 6 {
+        return Decoded::Refused(Refusal::UNEXPECTED_EOF);
+    }
+    match names::parse_symbol_name(s, 6, kind) {
+        ParsedPart::Value(name, next) => {
+            let data = ExportSymbol {
+                ordinal: common::u16_at(s, 2),
+                flags: ExportSymbolFlags::from_bits(common::u16_at(s, 4)),
+                name,
+            };
+            Decoded::Record(SymbolData::Export(data), next)
+        }
+        ParsedPart::Refused(e) => Decoded::Refused(e),
+    }
+}

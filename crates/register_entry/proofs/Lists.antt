@@ -1,0 +1,64 @@
+-- The entry of a record of a list's kind, over the width of its count.
+-- Assumes nothing.
+use Prim.Native.Nat.{ℕ, _+_, _≤_, _<_}
+use mathlib.Core.Path.{_≡_, refl, ap, _∙_, sym}
+use mathlib.Core.List.{List}
+use mathlib.Core.Bool.{Bool, true, false}
+use native.Mathlib.Omega.{arith}
+use borrow.Author.Tests.{lt-ltb, le-ltb, le-leb, lt-leb, leb-true}
+use lib.ListN.{length}
+use lib.Dec.{leb}
+use Rattle.common.specs.Bytes.{le}
+use Rattle.common.specs.Reader.{Read, value, refused, runsOut, refusal, Reader, _>>=_, uint}
+use Rattle.common.proofs.Readers.{uint-value, uint-short, then-value, then-refused}
+use Rattle.registers.specs.Registers.{registerCount, entryAt}
+use Rattle.registers.specs.declared.RegisterEntry.{RegisterEntry}
+use Rattle.common.specs.declared.Refusal.{Refusal}
+use Rattle.records.specs.declared.SymbolData.{SymbolData}
+use Rattle.kind.specs.Raw.{rawKind}
+use Rattle.symbol.specs.Decode.{decode}
+use Rattle.register_entry.specs.Entry.{isList, countedEntry, listEntry, registerEntry}
+
+-- k is below the count, or not
+pub counted-below : (kind count k : ℕ) (s : List ℕ) (at : ℕ) → k < count → entryAt kind k s at ≡ countedEntry kind count k s at
+unfolding countedEntry
+counted-below kind count k s at h = rw (lt-ltb k count h)
+
+pub counted-above : (kind count k : ℕ) (s : List ℕ) (at : ℕ) → count ≤ k → refused (refusal 14 0 0) ≡ countedEntry kind count k s at
+unfolding countedEntry
+counted-above kind count k s at h = rw (le-ltb k count h)
+
+module _ (kind w k : ℕ) (is : registerCount kind ≡ uint w) (s : List ℕ) where
+  behind-type : 6 ≤ length s → listEntry kind k s 2 ≡ (uint w >>= λ count. countedEntry kind count k) s 6
+  unfolding listEntry
+  behind-type h =
+      then-value (uint 4) (λ t. registerCount kind >>= λ count. countedEntry kind count k) s 2 (uint-value 4 s 2 (le-leb 6 (length s) h))
+      ∙ ap (λ (m : Reader ℕ). (m >>= λ count. countedEntry kind count k) s 6) is
+
+  pub list-there : 6 + w ≤ length s → {count : ℕ} {r : Read RegisterEntry} → count ≡ le w s 6 → r ≡ countedEntry kind count k s (6 + w) → r ≡ listEntry kind k s 2
+  list-there h q e =
+      e ∙ ap (λ (n : ℕ). countedEntry kind n k s (6 + w)) q
+      ∙ sym (behind-type (omega arith) ∙ then-value (uint w) (λ count. countedEntry kind count k) s 6 (uint-value w s 6 (le-leb (6 + w) (length s) h)))
+
+  pub list-short : length s < 6 + w → refused runsOut ≡ listEntry kind k s 2
+  unfolding listEntry
+  list-short h = go (leb 6 (length s)) refl
+    where
+      go : (b : Bool) → leb 6 (length s) ≡ b → refused runsOut ≡ (uint 4 >>= λ t. registerCount kind >>= λ count. countedEntry kind count k) s 2
+      go true e = sym (behind-type (leb-true 6 (length s) e) ∙ then-refused (uint w) (λ count. countedEntry kind count k) s 6 (uint-short w s 6 (lt-leb (6 + w) (length s) h)))
+      go false e = sym (then-refused (uint 4) (λ t. registerCount kind >>= λ count. countedEntry kind count k) s 2 (uint-short 4 s 2 e))
+
+-- a record that decode answers, of a kind of lists or of another
+module _ (s : List ℕ) (k : ℕ) {d : SymbolData} {to kind : ℕ} {b : Bool} {r : Read RegisterEntry}
+    (e : value d to ≡ decode s) (q : kind ≡ rawKind s) (is : b ≡ isList kind) where
+  pub of-list : b ≡ true → r ≡ listEntry kind k s 2 → r ≡ registerEntry s k
+  unfolding registerEntry
+  of-list t l = l ∙ rw q (let f : isList (rawKind s) ≡ true = rw (← q) (sym is ∙ t) in rw (← e, f))
+
+  pub of-no-list : b ≡ false → r ≡ refused (refusal 14 0 0) → r ≡ registerEntry s k
+  unfolding registerEntry
+  of-no-list t l = l ∙ (let f : isList (rawKind s) ≡ false = rw (← q) (sym is ∙ t) in rw (← e, f))
+
+pub of-refused : (s : List ℕ) (k : ℕ) {x : Refusal} → refused x ≡ decode s → refused x ≡ registerEntry s k
+unfolding registerEntry
+of-refused s k e = rw (← e)

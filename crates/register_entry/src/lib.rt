@@ -1,0 +1,70 @@
+// An entry of a register list, on demand: pdb keeps a Vec of them.
+ghost use mathlib.Core.Path.{_≡_};
+ghost use Rattle.registers.specs.Answer.{entryOf};
+ghost use Rattle.register_entry.specs.Entry.{isList, countedEntry, listEntry, registerEntry};
+ghost use Rattle.common.specs.Reader.{refused, refusal};
+use common::Refusal;
+use constants::S_MANYREG2;
+use constants::S_MANYREG2_ST;
+use records::Decoded;
+use registers::ParsedEntry;
+
+fn nothing_there() -> ParsedEntry
+    ensures { λ r. ⌜ entryOf r ≡ refused (refusal 14 0 0) ⌝ }
+{
+    ParsedEntry::Refused(Refusal {
+        number: 14,
+        position: 0,
+        detail: 0,
+    })
+}
+
+fn is_list(kind: u16) -> bool
+    ensures { λ r. ⌜ r ≡ isList kind ⌝ }
+{
+    constants::class_number(constants::class_of(kind)) == 6
+}
+
+// The entry k of a list whose count and first entry were found.
+fn counted_entry(s: &[u8], first: usize, kind: u16, count: u16, k: usize) -> ParsedEntry
+    ensures { λ r. ⌜ entryOf r ≡ countedEntry kind count k (now (s .entry)) first ⌝ }
+{
+    if k < count as usize {
+        registers::entry_of_list(s, first, kind, k as u16)
+    } else {
+        nothing_there()
+    }
+}
+
+// The entry k of a record of a list's kind.
+fn list_entry(s: &[u8], kind: u16, k: usize) -> ParsedEntry
+    ensures { λ r. ⌜ entryOf r ≡ listEntry kind k (now (s .entry)) 2 ⌝ }
+{
+    if (kind == S_MANYREG2) | (kind == S_MANYREG2_ST) {
+        if s.len() < 8 {
+            return ParsedEntry::Refused(Refusal::UNEXPECTED_EOF);
+        }
+        counted_entry(s, 8, kind, common::u16_at(s, 6), k)
+    } else {
+        if s.len() < 7 {
+            return ParsedEntry::Refused(Refusal::UNEXPECTED_EOF);
+        }
+        counted_entry(s, 7, kind, common::u8_at(s, 6) as u16, k)
+    }
+}
+
+pub fn register_entry(s: &[u8], k: usize) -> ParsedEntry
+    ensures { λ r. ⌜ entryOf r ≡ registerEntry (now (s .entry)) k ⌝ }
+{
+    match symbol::decode(s) {
+        Decoded::Record(_, _) => {
+            let kind = kind::raw_kind(s);
+            if is_list(kind) {
+                list_entry(s, kind, k)
+            } else {
+                nothing_there()
+            }
+        }
+        Decoded::Refused(e) => ParsedEntry::Refused(e),
+    }
+}

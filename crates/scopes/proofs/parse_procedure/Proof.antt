@@ -1,0 +1,102 @@
+-- `scopes::parse_procedure` meets its contract.
+-- Assumes nothing.
+use borrow.Author.Needs.{needs}
+use mathlib.Core.Path.{sym, ap, _∙_}
+use mathlib.Core.List.{[], _∷_}
+use Rattle.common.proofs.Rows.{tailed-value, tailed-refused, tailed-short}
+use Rattle.names.specs.Name.{symbolName}
+use Rattle.names.specs.Answer.{partOf}
+use Rattle.scopes.specs.Scope.{procedureOf}
+use Rattle.scopes.proofs.Rows.{procedureRow, procedure-row}
+use Rattle.scopes.proofs.parse_procedure.Statement.{statement}
+use Rattle.scopes.proofs.parse_procedure.Tie as tie
+
+returns : tie.Need-returns
+returns c = tailed-short 4 (4 ∷ 4 ∷ 4 ∷ 4 ∷ 4 ∷ 4 ∷ 4 ∷ 2 ∷ 1 ∷ []) (symbolName _) (procedureOf (c .before .before .args .kind)) _ 2 (c .if1 .taken) ∙ procedure-row _ _ 2
+
+parse-symbol-name-requires : tie.Need-parse-symbol-name-requires
+parse-symbol-name-requires c κs = search needs
+
+enum-known-name : tie.Need-enum-known-name
+enum-known-name c = search needs
+
+u32-at-requires : tie.Need-u32-at-requires
+u32-at-requires c κs = search needs
+
+index-of-requires : tie.Need-index-of-requires
+index-of-requires c κs = search needs
+
+u32-at-requires-2 : tie.Need-u32-at-requires-2
+u32-at-requires-2 c κs = search needs
+
+u32-at-requires-3 : tie.Need-u32-at-requires-3
+u32-at-requires-3 c κs = search needs
+
+index-of-requires-2 : tie.Need-index-of-requires-2
+index-of-requires-2 c κs = search needs
+
+u32-at-requires-4 : tie.Need-u32-at-requires-4
+u32-at-requires-4 c κs = search needs
+
+u32-at-requires-5 : tie.Need-u32-at-requires-5
+u32-at-requires-5 c κs = search needs
+
+u32-at-requires-6 : tie.Need-u32-at-requires-6
+u32-at-requires-6 c κs = search needs
+
+u32-at-requires-7 : tie.Need-u32-at-requires-7
+u32-at-requires-7 c κs = search needs
+
+u32-at-requires-8 : tie.Need-u32-at-requires-8
+u32-at-requires-8 c κs = search needs
+
+u16-at-requires : tie.Need-u16-at-requires
+u16-at-requires c κs = search needs
+
+u8-at-requires : tie.Need-u8-at-requires
+u8-at-requires c κs = search needs
+
+from-bits-requires : tie.Need-from-bits-requires
+from-bits-requires c κs = search needs
+
+enum-known-e : tie.Need-enum-known-e
+enum-known-e c = search needs
+
+returns-2 : tie.Need-returns-2
+returns-2 c =
+    let a = c .before .before .before .before in
+    let b = a .before .before .before .before in
+    let d = b .before .before .before .before in
+    let n = d .before .before in
+    let p = n .before .before in
+    rw (c .from-bits .ensures, c .before .u8-at .ensures, c .before .before .u16-at .ensures, c .before .before .before .u32-at8 .ensures, a .u32-at7 .ensures, a .before .u32-at6 .ensures, a .before .before .u32-at5 .ensures, a .before .before .before .u32-at4 .ensures, b .index-of2 .ensures, b .before .u32-at3 .ensures, b .before .before .u32-at2 .ensures, b .before .before .before .index-of .ensures, d .u32-at .ensures)
+    (tailed-value procedureRow (symbolName _) (procedureOf (p .before .before .before .args .kind)) _ 2 (p .before .if1 .left) (sym (ap partOf (n .name .given .1)) ∙ p .parse-symbol-name .ensures) ∙ procedure-row _ _ 2)
+
+returns-3 : tie.Need-returns-3
+returns-3 c =
+    let p = c .before .before .before in
+    tailed-refused procedureRow (symbolName _) (procedureOf (p .before .before .before .args .kind)) _ 2 (p .before .if1 .left) (sym (ap partOf (c .before .e .given .1)) ∙ p .parse-symbol-name .ensures) ∙ procedure-row _ _ 2
+
+pub parse-procedure-spec : {M : Type 1} → statement M
+parse-procedure-spec =
+    tie.close
+    (tie.spec
+    returns
+    parse-symbol-name-requires
+    enum-known-name
+    u32-at-requires
+    index-of-requires
+    u32-at-requires-2
+    u32-at-requires-3
+    index-of-requires-2
+    u32-at-requires-4
+    u32-at-requires-5
+    u32-at-requires-6
+    u32-at-requires-7
+    u32-at-requires-8
+    u16-at-requires
+    u8-at-requires
+    from-bits-requires
+    enum-known-e
+    returns-2
+    returns-3)

@@ -1,0 +1,116 @@
+// The records of variables that lie in memory: data, thread storage, locals, and what is addressed relative to a register.
+//
+// Each function takes a record of its class, kind first, and answers the typed record and the bytes that it took.
+ghost use mathlib.Core.Path.{_≡_};
+ghost use Rattle.records.specs.Answer.{decodedOf};
+ghost use Rattle.storage.specs.Storage.{dataItem, threadStorage, local, registerRelative};
+use common::Refusal;
+use constants::S_GDATA32;
+use constants::S_GDATA32_ST;
+use constants::S_GMANDATA;
+use constants::S_GMANDATA_ST;
+use constants::S_GTHREAD32;
+use constants::S_GTHREAD32_ST;
+use constants::S_LMANDATA;
+use constants::S_LMANDATA_ST;
+use names::ParsedPart;
+use records::DataSymbol;
+use records::Decoded;
+use records::LocalSymbol;
+use records::LocalVariableFlags;
+use records::RegisterRelativeSymbol;
+use records::SectionOffset;
+use records::SymbolData;
+use records::ThreadStorageSymbol;
+
+pub fn parse_data(s: &[u8], kind: u16) -> Decoded
+    ensures { λ r. ⌜ decodedOf r ≡ dataItem kind (now (s .entry)) 2 ⌝ }
+{
+    if s.len() < 12 {
+        return Decoded::Refused(Refusal::UNEXPECTED_EOF);
+    }
+    match names::parse_symbol_name(s, 12, kind) {
+        ParsedPart::Value(name, next) => {
+            let data = DataSymbol {
+                global: (kind == S_GDATA32)
+                    | (kind == S_GDATA32_ST)
+                    | (kind == S_GMANDATA)
+                    | (kind == S_GMANDATA_ST),
+                managed: (kind == S_LMANDATA)
+                    | (kind == S_LMANDATA_ST)
+                    | (kind == S_GMANDATA)
+                    | (kind == S_GMANDATA_ST),
+                type_index: common::u32_at(s, 2),
+                offset: SectionOffset {
+                    offset: common::u32_at(s, 6),
+                    section: common::u16_at(s, 10),
+                },
+                name,
+            };
+            Decoded::Record(SymbolData::Data(data), next)
+        }
+        ParsedPart::Refused(e) => Decoded::Refused(e),
+    }
+}
+
+pub fn parse_thread_storage(s: &[u8], kind: u16) -> Decoded
+    ensures { λ r. ⌜ decodedOf r ≡ threadStorage kind (now (s .entry)) 2 ⌝ }
+{
+    if s.len() < 12 {
+        return Decoded::Refused(Refusal::UNEXPECTED_EOF);
+    }
+    match names::parse_symbol_name(s, 12, kind) {
+        ParsedPart::Value(name, next) => {
+            let data = ThreadStorageSymbol {
+                global: (kind == S_GTHREAD32) | (kind == S_GTHREAD32_ST),
+                type_index: common::u32_at(s, 2),
+                offset: SectionOffset {
+                    offset: common::u32_at(s, 6),
+                    section: common::u16_at(s, 10),
+                },
+                name,
+            };
+            Decoded::Record(SymbolData::ThreadStorage(data), next)
+        }
+        ParsedPart::Refused(e) => Decoded::Refused(e),
+    }
+}
+
+pub fn parse_local(s: &[u8], kind: u16) -> Decoded
+    ensures { λ r. ⌜ decodedOf r ≡ local kind (now (s .entry)) 2 ⌝ }
+{
+    if s.len() < 8 {
+        return Decoded::Refused(Refusal::UNEXPECTED_EOF);
+    }
+    match names::parse_symbol_name(s, 8, kind) {
+        ParsedPart::Value(name, next) => {
+            let data = LocalSymbol {
+                type_index: common::u32_at(s, 2),
+                flags: LocalVariableFlags::from_bits(common::u16_at(s, 6)),
+                name,
+            };
+            Decoded::Record(SymbolData::Local(data), next)
+        }
+        ParsedPart::Refused(e) => Decoded::Refused(e),
+    }
+}
+
+pub fn parse_register_relative(s: &[u8], kind: u16) -> Decoded
+    ensures { λ r. ⌜ decodedOf r ≡ registerRelative kind (now (s .entry)) 2 ⌝ }
+{
+    if s.len() < 12 {
+        return Decoded::Refused(Refusal::UNEXPECTED_EOF);
+    }
+    match names::parse_symbol_name(s, 12, kind) {
+        ParsedPart::Value(name, next) => {
+            let data = RegisterRelativeSymbol {
+                offset: common::i32_at(s, 2),
+                type_index: common::u32_at(s, 6),
+                register: common::u16_at(s, 10),
+                name,
+            };
+            Decoded::Record(SymbolData::RegisterRelative(data), next)
+        }
+        ParsedPart::Refused(e) => Decoded::Refused(e),
+    }
+}

@@ -1,0 +1,3 @@
+pub mod Nameless
+pub mod Rows
+pub mod Classes

@@ -1,0 +1,71 @@
+-- `symbol_name::thunk_name` meets its contract.
+-- Assumes nothing.
+use borrow.Author.Needs.{needs}
+use mathlib.Core.Path.{sym, ap, _∙_}
+use Rattle.names.specs.Answer.{partOf}
+use Rattle.thunks.specs.Answer.{thunkKindOf}
+use Rattle.thunks.proofs.Rows.{thunk-short, thunk-name-refused, thunk-variant-refused, thunk-value}
+use Rattle.symbol_name.specs.Name.{namedBy}
+use Prim.Native.Nat.{ℕ}
+use Rattle.thunks.specs.Thunk.{thunkKind}
+use Rattle.symbol_name.proofs.thunk_name.Statement.{statement}
+use Rattle.symbol_name.proofs.thunk_name.Tie as tie
+
+returns : tie.Need-returns
+returns c = ap namedBy (thunk-short _ _ (c .if1 .taken))
+
+parse-symbol-name-requires : tie.Need-parse-symbol-name-requires
+parse-symbol-name-requires c κs = search needs
+
+enum-known-name : tie.Need-enum-known-name
+enum-known-name c = search needs
+
+u8-at-requires : tie.Need-u8-at-requires
+u8-at-requires c κs = search needs
+
+parse-thunk-kind-requires : tie.Need-parse-thunk-kind-requires
+parse-thunk-kind-requires c κs = search needs
+
+enum-told : tie.Need-enum-told
+enum-told c = search needs
+
+enum-known-e : tie.Need-enum-known-e
+enum-known-e c = search needs
+
+enum-known-e-2 : tie.Need-enum-known-e-2
+enum-known-e-2 c = search needs
+
+returns-2 : tie.Need-returns-2
+returns-2 c =
+    let p = c .before .before in
+    let n = p .before .before .before in
+    let q = n .before .before in
+    ap namedBy (thunk-value _ _ (q .before .if1 .left) (sym (ap partOf (n .name .given .1)) ∙ q .parse-symbol-name .ensures) (rw (p .before .u8-at .ensures) at (sym (ap thunkKindOf (c .enum-told .given .1)) ∙ p .parse-thunk-kind .ensures)))
+
+returns-3 : tie.Need-returns-3
+returns-3 c =
+    let p = c .before .before .before in
+    let n = p .before .before .before in
+    let q = n .before .before in
+    ap namedBy (thunk-variant-refused _ _ (q .before .if1 .left) (sym (ap partOf (n .name .given .1)) ∙ q .parse-symbol-name .ensures) (rw (p .before .u8-at .ensures) at (sym (ap thunkKindOf (c .before .e .given .1)) ∙ p .parse-thunk-kind .ensures)))
+
+returns-4 : tie.Need-returns-4
+returns-4 c =
+    let q = c .before .before .before in
+    ap namedBy (thunk-name-refused _ _ (q .before .if1 .left) (sym (ap partOf (c .before .e2 .given .1)) ∙ q .parse-symbol-name .ensures))
+
+pub thunk-name-spec : {M : Type 1} → statement M
+thunk-name-spec =
+    tie.close
+    (tie.spec
+    returns
+    parse-symbol-name-requires
+    enum-known-name
+    u8-at-requires
+    parse-thunk-kind-requires
+    enum-told
+    enum-known-e
+    enum-known-e-2
+    returns-2
+    returns-3
+    returns-4)

@@ -1,0 +1,186 @@
+// The name of a record (pdb's SymbolData::name), found without building the typed record.
+ghost use mathlib.Core.Path.{_≡_};
+ghost use Rattle.constants.specs.Kind.{classOf};
+ghost use Rattle.records.specs.Answer.{decodedOf};
+ghost use Rattle.symbol.specs.Decode.{layout};
+ghost use Rattle.variables.specs.Variable.{constant};
+ghost use Rattle.thunks.specs.Thunk.{thunk};
+ghost use Rattle.symbol_name.specs.Name.{nameOf, namedBy, nameBytes};
+ghost use Rattle.symbol_name.specs.Behind.{namedBehind, unnamedBehind, optionalBehind, nothingBehind, unnamedBy};
+use common::Refusal;
+use constants::Class;
+use names::ParsedPart;
+use records::Decoded;
+use records::OptionPart;
+use references::ParsedOptionPart;
+use thunks::ParsedThunkKind;
+use variant::ParsedVariant;
+
+// Whether there is a name, and the part of the record that it is; or decode's refusal.
+pub enum Named {
+    Answer(OptionPart),
+    Refused(Refusal),
+}
+
+// A record whose name stands behind a fixed part that ends at a position.
+fn named_behind(s: &[u8], at: usize, kind: u16) -> Named
+    ensures { λ r. ⌜ r ≡ namedBehind at kind (now (s .entry)) ⌝ }
+{
+    if s.len() < at {
+        return Named::Refused(Refusal::UNEXPECTED_EOF);
+    }
+    match names::parse_symbol_name(s, at, kind) {
+        ParsedPart::Value(name, _) => Named::Answer(OptionPart::Some(name)),
+        ParsedPart::Refused(e) => Named::Refused(e),
+    }
+}
+
+// A record whose bytes hold a name that is not answered.
+fn unnamed_behind(s: &[u8], at: usize, kind: u16) -> Named
+    ensures { λ r. ⌜ r ≡ unnamedBehind at kind (now (s .entry)) ⌝ }
+{
+    if s.len() < at {
+        return Named::Refused(Refusal::UNEXPECTED_EOF);
+    }
+    match names::parse_symbol_name(s, at, kind) {
+        ParsedPart::Value(_, _) => Named::Answer(OptionPart::None),
+        ParsedPart::Refused(e) => Named::Refused(e),
+    }
+}
+
+// A reference: records of old kinds have no name.
+fn optional_behind(s: &[u8], at: usize, kind: u16) -> Named
+    ensures { λ r. ⌜ r ≡ optionalBehind at kind (now (s .entry)) ⌝ }
+{
+    if s.len() < at {
+        return Named::Refused(Refusal::UNEXPECTED_EOF);
+    }
+    match references::parse_optional_name(s, at, kind) {
+        ParsedOptionPart::Value(name, _) => Named::Answer(name),
+        ParsedOptionPart::Refused(e) => Named::Refused(e),
+    }
+}
+
+// A record of a fixed part alone.
+fn nothing_behind(s: &[u8], at: usize) -> Named
+    ensures { λ r. ⌜ r ≡ nothingBehind at (now (s .entry)) ⌝ }
+{
+    if s.len() < at {
+        Named::Refused(Refusal::UNEXPECTED_EOF)
+    } else {
+        Named::Answer(OptionPart::None)
+    }
+}
+
+// A record of a class without names, decoded.
+fn unnamed(d: Decoded) -> Named
+    ensures { λ r. ⌜ r ≡ unnamedBy (decodedOf d) ⌝ }
+{
+    match d {
+        Decoded::Record(_, _) => Named::Answer(OptionPart::None),
+        Decoded::Refused(e) => Named::Refused(e),
+    }
+}
+
+fn constant_name(s: &[u8], kind: u16) -> Named
+    ensures { λ r. ⌜ r ≡ namedBy (constant kind (now (s .entry)) 2) ⌝ }
+{
+    if s.len() < 6 {
+        return Named::Refused(Refusal::UNEXPECTED_EOF);
+    }
+    match variant::parse_variant(s, 6) {
+        ParsedVariant::Value(_, at) => match names::parse_symbol_name(s, at, kind) {
+            ParsedPart::Value(name, _) => Named::Answer(OptionPart::Some(name)),
+            ParsedPart::Refused(e) => Named::Refused(e),
+        },
+        ParsedVariant::Refused(e) => Named::Refused(e),
+    }
+}
+
+fn thunk_name(s: &[u8], kind: u16) -> Named
+    ensures { λ r. ⌜ r ≡ namedBy (thunk kind (now (s .entry)) 2) ⌝ }
+{
+    if s.len() < 23 {
+        return Named::Refused(Refusal::UNEXPECTED_EOF);
+    }
+    match names::parse_symbol_name(s, 23, kind) {
+        ParsedPart::Value(name, at) => {
+            match thunks::parse_thunk_kind(s, at, common::u8_at(s, 22)) {
+                ParsedThunkKind::Value(_, _) => Named::Answer(OptionPart::Some(name)),
+                ParsedThunkKind::Refused(e) => Named::Refused(e),
+            }
+        }
+        ParsedPart::Refused(e) => Named::Refused(e),
+    }
+}
+
+// The name of a record whose kind was read.
+fn name_by_kind(s: &[u8], kind: u16) -> Named
+    ensures { λ r. ⌜ r ≡ namedBy (layout (classOf kind) kind (now (s .entry)) 2) ⌝ }
+{
+    match constants::class_of(kind) {
+        Class::Unknown => Named::Refused(Refusal {
+            number: 3,
+            position: 0,
+            detail: kind as u32,
+        }),
+        Class::ScopeEnd => Named::Answer(OptionPart::None),
+        Class::ObjName => named_behind(s, 6, kind),
+        Class::RegisterVariable => unnamed_behind(s, 8, kind),
+        Class::Constant => constant_name(s, kind),
+        Class::UserDefinedType => named_behind(s, 6, kind),
+        Class::MultiRegisterVariable => {
+            unnamed(registers::parse_multi_register_variable(s, kind))
+        }
+        Class::Data => named_behind(s, 12, kind),
+        Class::Public => named_behind(s, 12, kind),
+        Class::Procedure => named_behind(s, 37, kind),
+        Class::ThreadStorage => named_behind(s, 12, kind),
+        Class::CompileFlags => unnamed(modules::parse_compile_flags(s, kind)),
+        Class::UsingNamespace => named_behind(s, 2, kind),
+        Class::ProcedureReference => optional_behind(s, 12, kind),
+        Class::DataReference => optional_behind(s, 12, kind),
+        Class::AnnotationReference => named_behind(s, 12, kind),
+        Class::Trampoline => nothing_behind(s, 18),
+        Class::Export => named_behind(s, 6, kind),
+        Class::Local => named_behind(s, 8, kind),
+        Class::BuildInfo => nothing_behind(s, 6),
+        Class::InlineSite => unnamed(scopes::parse_inline_site(s, kind)),
+        Class::InlineSiteEnd => Named::Answer(OptionPart::None),
+        Class::ProcedureEnd => Named::Answer(OptionPart::None),
+        Class::Label => named_behind(s, 9, kind),
+        Class::Block => named_behind(s, 20, kind),
+        Class::RegisterRelative => named_behind(s, 12, kind),
+        Class::Thunk => thunk_name(s, kind),
+        Class::SeparatedCode => nothing_behind(s, 30),
+    }
+}
+
+pub fn name(s: &[u8]) -> Named
+    ensures { λ r. ⌜ r ≡ nameOf (now (s .entry)) ⌝ }
+{
+    if symbol::MAX_RECORD < s.len() {
+        return Named::Refused(Refusal {
+            number: 5,
+            position: 0,
+            detail: 0,
+        });
+    }
+    if s.len() < 2 {
+        return Named::Refused(Refusal::UNEXPECTED_EOF);
+    }
+    name_by_kind(s, common::u16_at(s, 0))
+}
+
+// The part of the record that is its name; the empty part where there is none, or where name refuses.
+pub fn name_bytes(s: &[u8]) -> &[u8]
+    ensures { λ r. ⌜ now r ≡ nameBytes (now (s .entry)) ⌝ }
+{
+    match name(s) {
+        Named::Answer(has) => match has {
+            OptionPart::Some(p) => names::as_bytes(s, p),
+            OptionPart::None => &s[..0],
+        },
+        Named::Refused(_) => &s[..0],
+    }
+}

@@ -1,0 +1,86 @@
+-- The layouts as rows of widths.
+-- Assumes nothing.
+use Prim.Native.Nat.{ℕ, _+_, _≤_, _<_}
+use mathlib.Core.Path.{_≡_, refl, sym, _∙_}
+use mathlib.Core.List.{List, [], _∷_}
+use lib.ListN.{length}
+use Rattle.common.specs.Bytes.{le}
+use Rattle.common.specs.Reader.{Read, value, refused, runsOut, Reader, done, next, _>>=_, uint}
+use Rattle.common.specs.declared.Refusal.{Refusal}
+use Rattle.common.proofs.Readers.{then-value, then-refused}
+use Rattle.common.proofs.Rows.{Fields, total, filled, tailed, fixed, fixed-value, fixed-short}
+use Rattle.names.specs.Name.{symbolName}
+use Rattle.names.specs.declared.Part.{Part}
+use Rattle.records.specs.declared.ThunkKind.{ThunkKind}
+use Rattle.records.specs.declared.SymbolData.{SymbolData}
+use Rattle.thunks.specs.Thunk.{trampoline, trampolineSymbolOf, label, labelOf, thunkKind, thunk, thunkOf}
+
+abbrev pub trampolineRow : List ℕ
+trampolineRow = 2 ∷ 2 ∷ 4 ∷ 4 ∷ 2 ∷ 2 ∷ []
+
+pub trampoline-row : (s : List ℕ) (at : ℕ) → fixed trampolineRow trampolineSymbolOf s at ≡ trampoline s at
+unfolding fixed trampoline
+trampoline-row s at = refl
+
+abbrev pub labelRow : List ℕ
+labelRow = 4 ∷ 2 ∷ 1 ∷ []
+
+pub label-row : (kind : ℕ) (s : List ℕ) (at : ℕ) → tailed labelRow (symbolName kind) labelOf s at ≡ label kind s at
+unfolding tailed label
+label-row kind s at = refl
+
+-- a row whose numbers decide what is read behind it
+unfoldable leading : {A : Type 0} (ws : List ℕ) → Fields ws (Reader A) → Reader A
+leading [] behind = behind
+leading (w ∷ ws) behind = uint w >>= λ x. leading ws (behind x)
+
+-- it is a row that makes a reader, and then that reader
+leading-is : {A : Type 0} (ws : List ℕ) (behind : Fields ws (Reader A)) (s : List ℕ) (at : ℕ) → (fixed ws behind >>= λ m. m) s at ≡ leading ws behind s at
+unfolding leading fixed _>>=_
+leading-is [] behind s at = refl
+leading-is (w ∷ ws) behind s at = go (λ x to. leading-is ws (behind x) s to) (uint w s at)
+  where
+    go : ((x to : ℕ) → (fixed ws (behind x) >>= λ m. m) s to ≡ leading ws (behind x) s to) → (r : Read ℕ) → next (λ m. m) s (next (λ x. fixed ws (behind x)) s r) ≡ next (λ x. leading ws (behind x)) s r
+    go same (value x to) = same x to
+    go same (refused e) = refl
+
+leading-reads : {A : Type 0} (ws : List ℕ) (behind : Fields ws (Reader A)) (s : List ℕ) (at : ℕ) → at + total ws ≤ length s → leading ws behind s at ≡ filled ws behind s at s (at + total ws)
+leading-reads ws behind s at h =
+    sym (leading-is ws behind s at) ∙ then-value (fixed ws behind) (λ m. m) s at (sym (fixed-value ws behind s at h))
+
+leading-short : {A : Type 0} (w : ℕ) (ws : List ℕ) (behind : Fields (w ∷ ws) (Reader A)) (s : List ℕ) (at : ℕ) → length s < at + total (w ∷ ws) → leading (w ∷ ws) behind s at ≡ refused runsOut
+leading-short w ws behind s at h =
+    sym (leading-is (w ∷ ws) behind s at) ∙ then-refused (fixed (w ∷ ws) behind) (λ m. m) s at (sym (fixed-short w ws behind s at h))
+
+-- the ordinal decides what is read behind the name
+abbrev thunkRow : List ℕ
+thunkRow = 4 ∷ 4 ∷ 4 ∷ 4 ∷ 2 ∷ 2 ∷ 1 ∷ []
+
+abbrev thunkBehind : ℕ → Fields thunkRow (Reader SymbolData)
+thunkBehind kind parent end next offset section len code =
+    symbolName kind >>= λ name. thunkKind code >>= λ variant. done (thunkOf parent end next offset section len name variant)
+
+thunk-row : (kind : ℕ) (s : List ℕ) (at : ℕ) → leading thunkRow (thunkBehind kind) s at ≡ thunk kind s at
+unfolding leading thunk
+thunk-row kind s at = refl
+
+pub thunk-short : (kind : ℕ) (s : List ℕ) → length s < 23 → refused runsOut ≡ thunk kind s 2
+thunk-short kind s h =
+    sym (leading-short 4 (4 ∷ 4 ∷ 4 ∷ 2 ∷ 2 ∷ 1 ∷ []) (thunkBehind kind) s 2 h) ∙ thunk-row kind s 2
+
+thunk-reads : (kind : ℕ) (s : List ℕ) → 23 ≤ length s → thunk kind s 2 ≡ filled thunkRow (thunkBehind kind) s 2 s 23
+thunk-reads kind s h = sym (thunk-row kind s 2) ∙ leading-reads thunkRow (thunkBehind kind) s 2 h
+
+-- the fields of a thunk are there, and its name and its variant are read or refused
+module _ (kind : ℕ) (s : List ℕ) (h : 23 ≤ length s) where
+  pub thunk-name-refused : {e : Refusal} → refused e ≡ symbolName kind s 23 → refused e ≡ thunk kind s 2
+  thunk-name-refused n = sym (thunk-reads kind s h ∙ then-refused (symbolName kind) _ s 23 (sym n))
+
+  module _ {name : Part} {at : ℕ} (n : value name at ≡ symbolName kind s 23) where
+    pub thunk-variant-refused : {e : Refusal} → refused e ≡ thunkKind (le 1 s 22) s at → refused e ≡ thunk kind s 2
+    thunk-variant-refused v =
+        sym (thunk-reads kind s h ∙ then-value (symbolName kind) _ s 23 (sym n) ∙ then-refused (thunkKind (le 1 s 22)) _ s at (sym v))
+
+    pub thunk-value : {variant : ThunkKind} {to : ℕ} → value variant to ≡ thunkKind (le 1 s 22) s at → value (thunkOf (le 4 s 2) (le 4 s 6) (le 4 s 10) (le 4 s 14) (le 2 s 18) (le 2 s 20) name variant) to ≡ thunk kind s 2
+    thunk-value v =
+        sym (thunk-reads kind s h ∙ then-value (symbolName kind) _ s 23 (sym n) ∙ then-value (thunkKind (le 1 s 22)) _ s at (sym v))

@@ -1,0 +1,2 @@
+pub mod Thunk
+pub mod Answer

@@ -1,0 +1,97 @@
+-- Thunks, trampolines and labels (cvinfo.h, the structure named at each).
+use Prim.Native.Nat.{ℕ}
+use mathlib.Core.Bool.{cond}
+use lib.Dec.{eqb}
+use Rattle.common.specs.Reader.{Reader, _>>=_, done, u8, u16, u32}
+use Rattle.names.specs.Name.{cstring, symbolName}
+use Rattle.names.specs.declared.Part.{Part}
+use Rattle.records.specs.Field.{indexOf, place, trampolineOf}
+use Rattle.records.specs.Flags.{procedureFlags}
+use Rattle.records.specs.declared.ThunkKind.{ThunkKind}
+use Rattle.records.specs.declared.ThunkKind.the-variants.{NoType, Adjustor, VCall, PCode, Load, Unknown}
+use Rattle.records.specs.declared.SymbolData.{SymbolData}
+use Rattle.records.specs.declared.SymbolData.the-variants.{Trampoline, Label, Thunk}
+
+-- TRAMPOLINE; each offset stands apart from its section
+abbrev pub trampolineSymbolOf : ℕ → ℕ → ℕ → ℕ → ℕ → ℕ → SymbolData
+trampolineSymbolOf type size thunkOffset targetOffset thunkSection targetSection =
+    Trampoline
+    (record {
+      «tramp_type» = trampolineOf type;
+      size = size;
+      thunk = place thunkOffset thunkSection;
+      target = place targetOffset targetSection;
+    })
+
+unfoldable pub trampoline : Reader SymbolData
+trampoline = do
+  type ← u16
+  size ← u16
+  thunkOffset ← u32
+  targetOffset ← u32
+  thunkSection ← u16
+  targetSection ← u16
+  done (trampolineSymbolOf type size thunkOffset targetOffset thunkSection targetSection)
+
+-- LABELSYM32
+abbrev pub labelOf : ℕ → ℕ → ℕ → Part → SymbolData
+labelOf offset section flags name =
+    Label (record { offset = place offset section; flags = procedureFlags flags; name = name })
+
+unfoldable pub label : ℕ → Reader SymbolData
+label kind = do
+  offset ← u32
+  section ← u16
+  flags ← u8
+  name ← symbolName kind
+  done (labelOf offset section flags name)
+
+-- a delta, and a target that ends in a zero whatever the kind of the record
+unfoldable pub adjustor : Reader ThunkKind
+adjustor = do
+  delta ← u16
+  target ← cstring
+  done (Adjustor (record { delta = delta; target = target }))
+
+-- the place in the table of virtual functions
+unfoldable pub vcall : Reader ThunkKind
+vcall = do
+  entry ← u16
+  done (VCall entry)
+
+-- what stands behind the name of a thunk, by its ordinal (THUNK_ORDINAL). cvinfo.h has 5 and 6 too, for trampolines only; pdb takes them as unknown.
+unfoldable pub thunkKind : ℕ → Reader ThunkKind
+thunkKind code =
+    cond (eqb code 0) (done NoType)  -- THUNK_ORDINAL_NOTYPE
+    (cond (eqb code 1) adjustor  -- THUNK_ORDINAL_ADJUSTOR
+    (cond (eqb code 2) vcall  -- THUNK_ORDINAL_VCALL
+    (cond (eqb code 3) (done PCode)  -- THUNK_ORDINAL_PCODE
+    (cond (eqb code 4) (done Load)  -- THUNK_ORDINAL_LOAD
+    (done (Unknown code))))))
+
+-- THUNKSYM32
+abbrev pub thunkOf : ℕ → ℕ → ℕ → ℕ → ℕ → ℕ → Part → ThunkKind → SymbolData
+thunkOf parent end next offset section len name variant =
+    Thunk
+    (record {
+      parent = indexOf parent;
+      end = end;
+      next = indexOf next;
+      offset = place offset section;
+      len = len;
+      kind = variant;
+      name = name;
+    })
+
+unfoldable pub thunk : ℕ → Reader SymbolData
+thunk kind = do
+  parent ← u32
+  end ← u32
+  next ← u32
+  offset ← u32
+  section ← u16
+  len ← u16
+  code ← u8
+  name ← symbolName kind
+  variant ← thunkKind code
+  done (thunkOf parent end next offset section len name variant)
