@@ -7,7 +7,7 @@ use crate::list::Question;
 use crate::random::Random;
 use crate::{numbers, records, steps};
 
-pub const GROUPS: &str = "constants, numbers, records, steps";
+pub const GROUPS: &str = "constants, numbers, records, steps, real";
 
 pub type Questions = Box<dyn Iterator<Item = Question>>;
 
@@ -20,6 +20,7 @@ pub fn questions(group: &str, count: u64, seed: u64) -> Option<Questions> {
         "numbers" => Some(mixed(numbers::grid, numbers::question, count, random)),
         "records" => Some(mixed(records::grid, records::question, count, random)),
         "steps" => Some(mixed(steps::grid, steps::question, count, random)),
+        "real" => Some(mixed(|_| Vec::new(), steps::real_question, count, random)),
         _ => None,
     }
 }

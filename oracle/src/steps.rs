@@ -32,6 +32,38 @@ pub fn question(random: &mut Random) -> Question {
     }
 }
 
+const REAL: &[u8] = include_bytes!("../../examples/nested.sym");
+
+/// A step in a damaged copy of a real stream.
+pub fn real_question(random: &mut Random) -> Question {
+    let starts = starts(REAL);
+    let mut stream = REAL.to_vec();
+    for _ in 0..random.below(4) {
+        let at = random.below(stream.len());
+        stream[at] = random.number() as u8;
+    }
+    if random.one_in(2) {
+        damage(&mut stream, &starts, random);
+    }
+    Question {
+        op: Op::Step,
+        arg: position(REAL.len(), &starts, random),
+        bytes: stream,
+    }
+}
+
+/// Where the records of a whole stream start, its end included.
+fn starts(stream: &[u8]) -> Vec<usize> {
+    let mut starts = vec![4];
+    while let Some(&[low, high]) = stream
+        .get(starts[starts.len() - 1]..)
+        .and_then(|rest| rest.first_chunk())
+    {
+        starts.push(starts[starts.len() - 1] + 2 + usize::from(u16::from_le_bytes([low, high])));
+    }
+    starts
+}
+
 /// A stream and where its records start, its end included.
 fn stream(random: &mut Random) -> (Vec<u8>, Vec<usize>) {
     let signature = random.pick(&[0, 4]);
