@@ -109,12 +109,20 @@ module _ (s : List ℕ) (r : Scan) (p passed skipped : ℕ) (h : Comes s r p pas
         low = omega (arith, h .low);
       }
 
-pub comes-inside : (s : List ℕ) (at : ℕ) → length s ≤ 4294967295 → at < length s → Comes s (scanOf s at) at 0 0
-unfolding scanOf
-comes-inside s at fits l = rw (le-ltb _ _ fits, lt-ltb _ _ l)
-    (record { within = omega arith; fuel = suc (length s); enough = omega arith; nexts = refl; counts = add-zero _; skips = add-zero _; few = omega arith; low = omega arith })
+-- where the loop begins
+pub comes-first : (s : List ℕ) (from : ℕ) → from ≤ length s → Comes s (scanFrom (suc (length s)) s from) from 0 0
+comes-first s from h =
+    record { within = h; fuel = suc (length s); enough = omega arith; nexts = refl; counts = add-zero _; skips = add-zero _; few = omega arith; low = omega arith }
 
-pub comes-past : (s : List ℕ) (at : ℕ) → length s ≤ 4294967295 → length s ≤ at → Comes s (scanOf s at) (length s) 0 0
+-- what a step is, by the length of the stream and the position
+pub scan-long : (s : List ℕ) (at : ℕ) → 4294967295 < length s → plain (Refused (refusal 5 0 0)) ≡ scanOf s at
 unfolding scanOf
-comes-past s at fits l = rw (le-ltb _ _ fits, le-ltb _ _ l)
-    (record { within = omega arith; fuel = suc (length s); enough = omega arith; nexts = refl; counts = add-zero _; skips = add-zero _; few = omega arith; low = omega arith })
+scan-long s at h = rw (lt-ltb _ _ h)
+
+pub scan-inside : (s : List ℕ) (at : ℕ) → length s ≤ 4294967295 → at < length s → scanFrom (suc (length s)) s at ≡ scanOf s at
+unfolding scanOf
+scan-inside s at fits l = rw (le-ltb _ _ fits, lt-ltb _ _ l)
+
+pub scan-past : (s : List ℕ) (at : ℕ) → length s ≤ 4294967295 → length s ≤ at → scanFrom (suc (length s)) s (length s) ≡ scanOf s at
+unfolding scanOf
+scan-past s at fits l = rw (le-ltb _ _ fits, le-ltb _ _ l)

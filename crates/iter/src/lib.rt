@@ -1,6 +1,8 @@
 // Reading a stream of records one step at a time (pdb's SymbolIter: seek, then next).
 ghost use mathlib.Core.Path.{_≡_};
-ghost use Rattle.iter.specs.Step.{frameAt, scanOf, stepOf};
+ghost use Prim.Native.Nat.{suc, _≤_};
+ghost use lib.ListN.{length};
+ghost use Rattle.iter.specs.Step.{frameAt, scanFrom, scanOf, stepOf};
 ghost use Rattle.common.specs.Reader.{refusal};
 use common::Refusal;
 
@@ -66,42 +68,18 @@ pub struct Scan {
     pub next: Next,
 }
 
-pub fn scan_at(s: &[u8], at: usize) -> Scan
-    ensures { λ r. ⌜ r ≡ scanOf (now (s .entry)) at ⌝ }
+// The step from a position within the stream.
+fn scan_within(s: &[u8], from: usize) -> Scan
+    requires { ⌜ from ≤ length (now s) ⌝ }
+    ensures { λ r. ⌜ r ≡ scanFrom (suc (length (now (s .entry)))) (now (s .entry)) from ⌝ }
 {
-    let n = s.len();
+    let mut p = from;
     let mut passed: usize = 0;
     let mut skipped: usize = 0;
-    if MAX_STREAM < n {
-        let next = Next::Refused(refused(5, 0));
-        return Scan {
-            passed,
-            skipped,
-            next,
-        };
-    }
-    let mut p = n;
-    if at < n {
-        p = at;
-    }
     loop {
         match frame_at(s, p) {
-            Frame::Nothing => {
-                let next = Next::End(p);
-                return Scan {
-                    passed,
-                    skipped,
-                    next,
-                };
-            }
-            Frame::Refused(e) => {
-                let next = Next::Refused(e);
-                return Scan {
-                    passed,
-                    skipped,
-                    next,
-                };
-            }
+            Frame::Nothing => return scanned(passed, skipped, Next::End(p)),
+            Frame::Refused(e) => return scanned(passed, skipped, Next::Refused(e)),
             Frame::Whole { kind, len } => {
                 let start = p + 2;
                 let after = start + len;
@@ -116,14 +94,35 @@ pub fn scan_at(s: &[u8], at: usize) -> Scan
                         len,
                         next: after,
                     };
-                    return Scan {
-                        passed,
-                        skipped,
-                        next,
-                    };
+                    return scanned(passed, skipped, next);
                 }
             }
         }
+    }
+}
+
+fn scanned(passed: usize, skipped: usize, next: Next) -> Scan
+    ensures { λ r. ⌜ r ≡ record { passed = passed; skipped = skipped; next = next } ⌝ }
+{
+    Scan {
+        passed,
+        skipped,
+        next,
+    }
+}
+
+// One step from a position, with what it passed over.
+pub fn scan_at(s: &[u8], at: usize) -> Scan
+    ensures { λ r. ⌜ r ≡ scanOf (now (s .entry)) at ⌝ }
+{
+    let n = s.len();
+    if MAX_STREAM < n {
+        return scanned(0, 0, Next::Refused(refused(5, 0)));
+    }
+    if at < n {
+        scan_within(s, at)
+    } else {
+        scan_within(s, n)
     }
 }
 

@@ -14,8 +14,61 @@ use Rattle.constants.specs.Kind as K
 use Rattle.records.specs.declared.SymbolData.the-variants.{Constant, UserDefinedType}
 use Rattle.variables.specs.Variable as L
 use Rattle.symbol.specs.Decode.{layout, byKind, decode}
+use Rattle.iter.specs.Reading.{readFrom, readOf}
 use Rattle.iter.specs.Step.{frameAt, scanFrom, scanOf, stepOf}
 use Rattle.iter.specs.declared.Next.the-variants.{End, Refused}
+use Rattle.kind.specs.Raw.{rawKind}
+use Rattle.scopes.specs.Scope as S
+use Rattle.links.specs.Links.{roleOf, linksOf}
+use Rattle.chain.specs.Chain.{chainOf}
+use Rattle.check_nesting.specs.Check as C
+use Rattle.check_nesting.specs.declared.Checked.the-variants.{Good}
+use Rattle.walk.specs.Finding.{foundBy, refusedBy}
+use Rattle.walk.specs.Walk.{turnOf, walkOn, walkFrom, walkOf}
+use Rattle.jump.specs.Jump.{hopOf, landOf, yieldedAt, jumpBody, jumpBy, jumpFrom, jumpOf}
+
+-- Stream A
+unfoldable pub streamA : List ℕ
+streamA =
+    0x04 ∷ 0x00 ∷ 0x00 ∷ 0x00 ∷
+    0x16 ∷ 0x00 ∷ 0x03 ∷ 0x11 ∷ 0x00 ∷ 0x00 ∷ 0x00 ∷ 0x00 ∷ 0x44 ∷ 0x00 ∷ 0x00 ∷ 0x00 ∷ 0x0A ∷ 0x00 ∷ 0x00 ∷ 0x00 ∷ 0x00 ∷ 0x10 ∷ 0x00 ∷ 0x00 ∷ 0x01 ∷ 0x00 ∷ 0x61 ∷ 0x00 ∷
+    0x16 ∷ 0x00 ∷ 0x03 ∷ 0x11 ∷ 0x04 ∷ 0x00 ∷ 0x00 ∷ 0x00 ∷ 0x3C ∷ 0x00 ∷ 0x00 ∷ 0x00 ∷ 0x04 ∷ 0x00 ∷ 0x00 ∷ 0x00 ∷ 0x02 ∷ 0x10 ∷ 0x00 ∷ 0x00 ∷ 0x01 ∷ 0x00 ∷ 0x62 ∷ 0x00 ∷
+    0x06 ∷ 0x00 ∷ 0x24 ∷ 0x11 ∷ 0x6E ∷ 0x73 ∷ 0x74 ∷ 0x00 ∷
+    0x02 ∷ 0x00 ∷ 0x06 ∷ 0x00 ∷
+    0x02 ∷ 0x00 ∷ 0x02 ∷ 0x04 ∷
+    0x02 ∷ 0x00 ∷ 0x06 ∷ 0x00 ∷ []
+
+-- P1 A passes: 5 and 1 records, 64 and 4 bytes, 2 openers, depth 2.
+p1 : C.checkOf streamA 4 ≡ Good (record { records = 5; bytes = 64; passed = 1; skipped = 4; openers = 2; deepest = 2 })
+unfolding streamA C.checkOf C.checkFrom C.checkOn C.actOf C.noCounts C.countedOf C.openedOf C.countRec C.endOf readOf readFrom scanOf scanFrom frameAt B.le rawKind roleOf K.nestingRole K.roleOf K.find K.kinds linksOf decode byKind layout R._>>=_ R.uint N.run N.cstring N.symbolName S.block K.classOf
+p1 = refl
+
+-- P2 i = 52: chain 4, 28; 3 read both ways. (`chainOf` takes a stack, the innermost first.)
+p2-walk : walkOf streamA 4 52 ≡ foundBy (chainOf (28 ∷ 4 ∷ [])) 3
+unfolding streamA walkOf walkFrom walkOn turnOf refusedBy readOf readFrom scanOf scanFrom frameAt B.le rawKind roleOf K.nestingRole K.roleOf K.find K.kinds
+p2-walk = refl
+
+p2-jump : jumpOf streamA 4 52 ≡ foundBy (chainOf (28 ∷ 4 ∷ [])) 3
+unfolding streamA jumpOf jumpFrom jumpBy jumpBody hopOf landOf yieldedAt refusedBy scanOf scanFrom frameAt B.le rawKind roleOf K.nestingRole K.roleOf K.find K.kinds linksOf decode byKind layout R._>>=_ R.uint N.run N.cstring N.symbolName S.block K.classOf
+p2-jump = refl
+
+-- P3 i = 68: chain 4; walk 5 read, jump 4.
+p3-walk : walkOf streamA 4 68 ≡ foundBy (chainOf (4 ∷ [])) 5
+unfolding streamA walkOf walkFrom walkOn turnOf refusedBy readOf readFrom scanOf scanFrom frameAt B.le rawKind roleOf K.nestingRole K.roleOf K.find K.kinds
+p3-walk = refl
+
+p3-jump : jumpOf streamA 4 68 ≡ foundBy (chainOf (4 ∷ [])) 4
+unfolding streamA jumpOf jumpFrom jumpBy jumpBody hopOf landOf yieldedAt refusedBy scanOf scanFrom frameAt B.le rawKind roleOf K.nestingRole K.roleOf K.find K.kinds linksOf decode byKind layout R._>>=_ R.uint N.run N.cstring N.symbolName S.block K.classOf
+p3-jump = refl
+
+-- P4 i = 64: 14 both ways.
+p4-walk : walkOf streamA 4 64 ≡ refusedBy (refusal 14 0 0)
+unfolding streamA walkOf walkFrom walkOn turnOf refusedBy readOf readFrom scanOf scanFrom frameAt B.le rawKind roleOf K.nestingRole K.roleOf K.find K.kinds
+p4-walk = refl
+
+p4-jump : jumpOf streamA 4 64 ≡ refusedBy (refusal 14 0 0)
+unfolding streamA jumpOf jumpFrom jumpBy jumpBody hopOf landOf yieldedAt refusedBy scanOf scanFrom frameAt B.le rawKind roleOf K.nestingRole K.roleOf K.find K.kinds linksOf decode byKind layout R._>>=_ R.uint N.run N.cstring N.symbolName S.block K.classOf
+p4-jump = refl
 
 -- P6 empty stream: End at 0.
 p6 : stepOf [] 0 ≡ End 0

@@ -1,0 +1,79 @@
+-- What push, pop and top do to the chain of a stack.
+-- Assumes nothing.
+use mathlib.Core.Path.{_≡_, refl, sym, _∙_, ap}
+use mathlib.Core.List.{List, [], _∷_, _++_, tail, reverse, reverse-cons, append-assoc}
+use Prim.Native.Nat.{ℕ, suc, _+_, _-_, _≤_, _<_}
+use native.Mathlib.Omega.{arith}
+use native.Mathlib.Numerals.{add-one}
+use lib.ListN.{length, set, getD, replicate, length-reverse}
+use lib.Seq.{set-at, getD-at}
+use borrow.Author.Tests.{lt-leb, ne-eqb}
+use Rattle.chain.specs.Chain.{chainOf, pushed, popped, topOf}
+use Rattle.chain.specs.declared.Chain.{Chain}
+
+-- n unused places
+abbrev none : ℕ → List ℕ
+none n = replicate n 0
+
+zeros : (n : ℕ) → n < 64 → none (64 - n) ≡ 0 ∷ none (64 - suc n)
+zeros n h = ap none e
+  where
+    e : 64 - n ≡ suc (64 - suc n)
+    e = omega arith
+
+-- the places of a stack with x on it: x stands behind the others
+places : (x : ℕ) (st : List ℕ) → reverse (x ∷ st) ++ none (64 - suc (length st)) ≡ reverse st ++ x ∷ none (64 - suc (length st))
+places x st = ap (λ (l : List ℕ). l ++ none (64 - suc (length st))) (reverse-cons x st) ∙ append-assoc (reverse st) (x ∷ []) _
+
+-- a 0 behind the positions of a stack is one more unused place
+unused : (st : List ℕ) → length st < 64 → reverse st ++ 0 ∷ none (64 - suc (length st)) ≡ reverse st ++ none (64 - length st)
+unused st h = ap (λ (l : List ℕ). reverse st ++ l) (sym (zeros (length st) h))
+
+stored : (st : List ℕ) (y x : ℕ) → set (reverse st ++ y ∷ none (64 - suc (length st))) (length st) x ≡ reverse st ++ x ∷ none (64 - suc (length st))
+stored st y x = set-at (reverse st) y _ x (length st) (length-reverse st)
+
+at-stack : (st : List ℕ) (y x : ℕ) (l : List ℕ) → l ≡ reverse st ++ y ∷ none (64 - suc (length st)) → set l (length st) x ≡ reverse st ++ x ∷ none (64 - suc (length st))
+at-stack st y x l e = ap (λ (k : List ℕ). set k (length st) x) e ∙ stored st y x
+
+-- push, pop and top of a stack's chain
+pub push-stack : (st : List ℕ) (x : ℕ) → length st < 64 → pushed (chainOf st) x ≡ chainOf (x ∷ st)
+unfolding pushed chainOf
+push-stack st x h =
+    rw (lt-leb 64 (length st) h)
+    (λ i. record { at = (at-stack st 0 x _ (sym (unused st h)) ∙ sym (places x st)) i; depth = add-one (length st) i })
+
+sub-one-suc : (n : ℕ) → suc n - 1 ≡ n
+sub-one-suc n = omega arith
+
+pub pop-stack : (st : List ℕ) (x : ℕ) → length st < 64 → popped (chainOf (x ∷ st)) ≡ chainOf st
+unfolding popped chainOf
+pop-stack st x h =
+    rw (ne-eqb (suc (length st)) 0 (omega arith), sub-one-suc (length st), lt-leb 64 (length st) h)
+    (λ i. record { at = (at-stack st x 0 _ (places x st) ∙ unused st h) i; depth = length st })
+
+pub top-stack : (st : List ℕ) (x : ℕ) → length st < 64 → topOf (chainOf (x ∷ st)) ≡ x
+unfolding topOf chainOf
+top-stack st x h =
+    rw (ne-eqb (suc (length st)) 0 (omega arith), sub-one-suc (length st), lt-leb 64 (length st) h)
+    (ap (λ (l : List ℕ). getD l (length st) 0) (places x st) ∙ getD-at (reverse st) x _ 0 (length st) (length-reverse st))
+
+pub top-none : topOf (chainOf []) ≡ 0
+unfolding topOf chainOf
+top-none = refl
+
+pub pop-tail : (st : List ℕ) → length st ≤ 64 → (length st ≡ 0 → ⊥) → popped (chainOf st) ≡ chainOf (tail st)
+pop-tail [] h n = absurd (n refl)
+pop-tail (x ∷ st) h n = pop-stack st x (omega arith)
+
+pub length-tail : (st : List ℕ) → length (tail st) ≤ length st
+length-tail [] = omega arith
+length-tail (x ∷ st) = omega arith
+
+-- the stores that push and pop make
+pub pushed-is : (c : Chain) (x : ℕ) → c .depth < 64 → record { at = set (c .at) (c .depth) x; depth = c .depth + 1 } ≡ pushed c x
+unfolding pushed
+pushed-is c x h = rw (lt-leb 64 (c .depth) h)
+
+pub popped-is : (c : Chain) → (c .depth ≡ 0 → ⊥) → c .depth ≤ 64 → record { at = set (c .at) (c .depth - 1) 0; depth = c .depth - 1 } ≡ popped c
+unfolding popped
+popped-is c z h = rw (ne-eqb (c .depth) 0 z, lt-leb 64 (c .depth - 1) (omega arith))

@@ -1,0 +1,329 @@
+-- Laws of the check: what a turn of the loop does to the check that is left.
+-- Assumes nothing.
+use mathlib.Core.Path.{_≡_, refl, sym, _∙_, ap, subst}
+use mathlib.Core.List.{List, [], _∷_, tail}
+use mathlib.Core.Bool.{Bool, true, false, cond}
+use Prim.Native.Nat.{ℕ, suc, _+_, _-_, _≤_, _<_}
+use native.Mathlib.Omega.{arith}
+use lib.ListN.{length, take, drop, set}
+use lib.Dec.{ltb, leb, eqb}
+use borrow.Author.Tests.{leb-false, eqb-false, lt-ltb, ltb-true}
+use Rattle.common.specs.declared.Refusal.{Refusal}
+use Rattle.constants.specs.declared.Role.{Role}
+use Rattle.constants.specs.declared.Role.the-variants.{Neither, Opens, Closes}
+use Rattle.iter.specs.Step.{scanOf}
+use Rattle.iter.specs.Reading.{Rec, Reading, recAt, ended, more, onNext, readOf}
+use Rattle.iter.specs.declared.Scan.{Scan}
+use Rattle.iter.specs.declared.Next.{Next}
+use Rattle.iter.specs.declared.Next.the-variants.{End, Refused, Record}
+use Rattle.iter.proofs.Reading.{Stepped, step-fits, read-by, Skips, skips}
+use Rattle.iter.proofs.Records.{bytes-length}
+use Rattle.links.specs.Links.{roleOf, linksOf}
+use Rattle.links.specs.declared.Links.{Links}
+use Rattle.links.specs.declared.Links.the-variants.{Unread, Read}
+use Rattle.chain.specs.Chain.{chainOf, pushed, popped, topOf}
+use Rattle.chain.specs.declared.Chain.{Chain}
+use Rattle.chain.proofs.Laws.{push-stack, pop-tail, top-stack, top-none, pushed-is, popped-is}
+use Rattle.check_nesting.specs.declared.Counts.{Counts}
+use Rattle.check_nesting.specs.declared.Checked.the-variants.{Refused as Refuse}
+use Rattle.check_nesting.specs.declared.Act.{Act}
+use Rattle.check_nesting.specs.declared.Act.the-variants.{Stay, Push, Pop, Refused as Stop}
+use Rattle.check_nesting.specs.Check.{Open, innerIndex, innerEnd, openOf, actOfRole, actOf, noCounts, countedOf, openedOf, countRec, refuses, onAct, endOf, onLast, checkOn, checkFrom, checkOf}
+
+-- one field of each open opener
+module _ (field : Open → ℕ) where
+  abbrev each : List Open → List ℕ
+  each [] = []
+  each (o ∷ st) = field o ∷ each st
+
+  length-each : (st : List Open) → length (each st) ≡ length st
+  length-each [] = refl
+  length-each (o ∷ st) = ap suc (length-each st)
+
+  tail-each : (st : List Open) → tail (each st) ≡ each (tail st)
+  tail-each [] = refl
+  tail-each (o ∷ st) = refl
+
+  top-each : (o : Open) (st : List Open) → length (o ∷ st) ≤ 64 → topOf (chainOf (each (o ∷ st))) ≡ field o
+  top-each o st h = top-stack (each st) (field o) (omega (arith, length-each st))
+
+-- the two chains of a stack
+abbrev pub indexes : List Open → List ℕ
+indexes = each (λ o. o .index)
+
+abbrev pub ends : List Open → List ℕ
+ends = each (λ o. o .end)
+
+length-tail : (st : List Open) → length (tail st) ≤ length st
+length-tail [] = omega arith
+length-tail (o ∷ st) = omega arith
+
+top-index : (st : List Open) → length st ≤ 64 → topOf (chainOf (indexes st)) ≡ innerIndex st
+top-index [] h = top-none
+top-index (o ∷ st) h = top-each (λ x. x .index) o st h
+
+top-end : (st : List Open) → length st ≤ 64 → topOf (chainOf (ends st)) ≡ innerEnd st
+top-end [] h = top-none
+top-end (o ∷ st) h = top-each (λ x. x .end) o st h
+
+-- an opener is pushed only below 64, and a closer pops only where one is open
+abbrev Room : ℕ → Act → Type 0
+Room d Stay = Unit
+Room d (Push end) = d < 64
+Room d Pop = d ≡ 0 → ⊥
+Room d (Stop n) = Unit
+
+room-open : (l : Links) (index d inner : ℕ) → Room d (openOf l index d inner)
+room-open Unread index d inner = tt
+room-open (Read parent end) index d inner = by (eqb index 0) (eqb parent inner) (leb 64 d) refl
+  where
+    by : (a b e : Bool) → leb 64 d ≡ e → Room d (cond a (Stop 7) (cond b (cond e (Stop 9) (Push end)) (Stop 8)))
+    by true b e q = tt
+    by false false e q = tt
+    by false true true q = tt
+    by false true false q = leb-false _ _ q
+
+room-role : (ro : Role) (bytes : List ℕ) (index d inner end : ℕ) → Room d (actOfRole ro bytes index d inner end)
+room-role Opens bytes index d inner end = room-open (linksOf bytes) index d inner
+room-role Closes bytes index d inner end = by (eqb d 0) refl (eqb end index)
+  where
+    by : (a : Bool) → eqb d 0 ≡ a → (b : Bool) → Room d (cond a (Stop 10) (cond b Pop (Stop 11)))
+    by true q b = tt
+    by false q true = eqb-false _ _ q
+    by false q false = tt
+room-role Neither bytes index d inner end = tt
+
+room : (bytes : List ℕ) (index d inner end : ℕ) → Room d (actOf bytes index d inner end)
+unfolding actOf
+room bytes index d inner end = room-role (roleOf bytes) bytes index d inner end
+
+-- what is known of a scan, in numbers
+pub record Scanned (s : List ℕ) (at : ℕ) (c : Scan) : Type 0 where
+  pub less : c .skipped ≤ length s - at
+  pub few : c .passed ≤ c .skipped
+
+scan-bounds : (s : List ℕ) (at : ℕ) (c : Scan) → c ≡ scanOf s at → Scanned s at c
+scan-bounds s at c e = subst (Scanned s at) (sym e) (by (ltb at (length s)) refl (skips s at))
+  where
+    by : (b : Bool) → ltb at (length s) ≡ b → Skips s (cond b at (length s)) (scanOf s at) → Scanned s at (scanOf s at)
+    by true q k = record { less = omega (arith, k .within, ltb-true); few = k .few }
+    by false q k = record { less = omega (arith, k .within); few = k .few }
+
+-- and of the record that it yields
+pub record Found (s : List ℕ) (at : ℕ) (c : Scan) (index from len next : ℕ) : Type 0 where
+  pub stepped : Stepped s at index from len next
+  pub exact : at + c .skipped ≡ index
+  pub size : length (take len (drop from s)) ≡ len
+
+found-bounds : (s : List ℕ) (at : ℕ) (c : Scan) (index from len next : ℕ) → c ≡ scanOf s at → c .next ≡ Record index from len next → Found s at c index from len next
+found-bounds s at c index from len next e n = subst (λ (x : Scan). Found s at x index from len next) (sym e) (it (ap (λ (x : Scan). x .next) (sym e) ∙ n))
+  where
+    it : scanOf s at .next ≡ Record index from len next → Found s at (scanOf s at) index from len next
+    it q =
+        let y = step-fits s at index from len next q in
+        let l : at < length s = omega (arith, y) in
+        let k : Skips s at (scanOf s at) = rw (lt-ltb at (length s) l) at (skips s at) in
+        record { stepped = y; exact = k .at-record index from len next q; size = bytes-length s at index from len next q }
+
+-- the check of a reading whose first record is r
+pub check-more : (r : Rec) (rest reading : Reading) (st : List Open) (n : Counts) → reading ≡ more r rest →
+    checkFrom reading st n ≡ onAct r st n (actOf (r .bytes) (r .index) (length st) (innerIndex st) (innerEnd st)) (λ st' n'. checkFrom rest st' n')
+unfolding checkFrom checkOn
+check-more r rest reading st n e = ap (λ (x : Reading). checkFrom x st n) e
+
+-- The loop's invariant: the chains are those of a stack, and the check from the start answers what the check from here does.
+pub record Checking (s : List ℕ) (start : ℕ) (opens ends-of : Chain) (n : Counts) (at : ℕ) : Type 0 where
+  pub stack : List Open
+  pub is-opens : opens ≡ chainOf (indexes stack)
+  pub is-ends : ends-of ≡ chainOf (ends stack)
+  pub most : length stack ≤ 64
+  pub same : checkFrom (readOf s at) stack n ≡ checkOf s start
+  pub records : n .records + (length s - at) ≤ length s
+  pub bytes : n .bytes + n .skipped + (length s - at) ≤ length s
+  pub passed : n .passed ≤ n .skipped
+  pub openers : n .openers ≤ n .records
+
+pub checking-first : (s : List ℕ) (start : ℕ) (opens ends-of : Chain) → opens ≡ chainOf [] → ends-of ≡ chainOf [] →
+    Checking s start opens ends-of noCounts start
+unfolding checkOf noCounts
+checking-first s start opens ends-of eo ee =
+    record {
+      stack = [];
+      is-opens = eo;
+      is-ends = ee;
+      most = omega arith;
+      same = refl;
+      records = omega arith;
+      bytes = omega arith;
+      passed = omega arith;
+      openers = omega arith;
+    }
+
+-- a turn of the loop: the step c that it makes, and the record that this yields
+pub record Turn (s : List ℕ) (start : ℕ) (opens ends-of : Chain) (n : Counts) (at : ℕ) (c : Scan) : Type 0 where
+  pub inv : Checking s start opens ends-of n at
+  pub scan : c ≡ scanOf s at
+
+pub record Yields (s : List ℕ) (start : ℕ) (opens ends-of : Chain) (n : Counts) (at : ℕ) (c : Scan) (index from len next : ℕ) : Type 0 where
+  pub turn : Turn s start opens ends-of n at c
+  pub yields : c .next ≡ Record index from len next
+
+module _ {s : List ℕ} {start : ℕ} {opens ends-of : Chain} {n : Counts} {at : ℕ} {c : Scan} (t : Turn s start opens ends-of n at c) where
+  depth : opens .depth ≡ length (t .inv .stack)
+  unfolding chainOf
+  depth = ap (λ (x : Chain). x .depth) (t .inv .is-opens) ∙ length-each (λ o. o .index) (t .inv .stack)
+
+  ends-depth : ends-of .depth ≡ opens .depth
+  unfolding chainOf
+  ends-depth = ap (λ (x : Chain). x .depth) (t .inv .is-ends) ∙ length-each (λ o. o .end) (t .inv .stack) ∙ sym depth
+
+  pub depth-most : opens .depth ≤ 64
+  depth-most = omega (arith, depth, t .inv .most)
+
+  inner : topOf opens ≡ innerIndex (t .inv .stack)
+  inner = ap topOf (t .inv .is-opens) ∙ top-index (t .inv .stack) (t .inv .most)
+
+  inner-end : topOf (record { at = ends-of .at; depth = opens .depth }) ≡ innerEnd (t .inv .stack)
+  inner-end = ap (λ (x : ℕ). topOf (record { at = ends-of .at; depth = x })) (sym ends-depth) ∙ ap topOf (t .inv .is-ends) ∙ top-end (t .inv .stack) (t .inv .most)
+
+  same-act : (bytes : List ℕ) (index : ℕ) →
+      actOf bytes index (opens .depth) (topOf opens) (topOf (record { at = ends-of .at; depth = opens .depth }))
+      ≡ actOf bytes index (length (t .inv .stack)) (innerIndex (t .inv .stack)) (innerEnd (t .inv .stack))
+  same-act bytes index = rw (inner, inner-end, depth)
+
+  pub scanned : Scanned s at c
+  scanned = scan-bounds s at c (t .scan)
+
+  -- the reading from here, by what the step says
+  reading : (m : Next) → c .next ≡ m → readOf s at ≡ onNext s c m (λ q. readOf s q)
+  reading m e = subst (λ (x : Scan). x .next ≡ m → readOf s at ≡ onNext s x m (λ q. readOf s q)) (sym (t .scan)) (read-by s at m) e
+
+  last : (m : Next) → c .next ≡ m → readOf s at ≡ ended c → onLast c m (t .inv .stack) n ≡ checkOf s start
+  unfolding checkFrom checkOn
+  last m em er = ap (λ (x : Next). onLast c x (t .inv .stack) n) (sym em) ∙ ap (λ (x : Reading). checkFrom x (t .inv .stack) n) (sym er) ∙ t .inv .same
+
+  pub at-refused : {x : Refusal} → c .next ≡ Refused x → Refuse x ≡ checkOf s start
+  at-refused {x} e = last (Refused x) e (reading (Refused x) e)
+
+  pub at-end : {p : ℕ} → c .next ≡ End p → endOf n (c .passed) (c .skipped) (opens .depth) (topOf opens) ≡ checkOf s start
+  at-end {p} e = rw (inner, depth) (last (End p) e (reading (End p) e))
+
+module _ {s : List ℕ} {start : ℕ} {opens ends-of : Chain} {n : Counts} {at : ℕ} {c : Scan} {index from len next : ℕ}
+    (y : Yields s start opens ends-of n at c index from len next) where
+  abbrev stack : List Open
+  stack = y .turn .inv .stack
+
+  abbrev r : Rec
+  r = recAt s c index from len
+
+  -- what is done with the record
+  abbrev pub act : Act
+  act = actOf (take len (drop from s)) index (opens .depth) (topOf opens) (topOf (record { at = ends-of .at; depth = opens .depth }))
+
+  pub found : Found s at c index from len next
+  found = found-bounds s at c index from len next (y .turn .scan) (y .yields)
+
+  left : (a : Act) → act ≡ a → onAct r stack n a (λ st m. checkFrom (readOf s next) st m) ≡ checkOf s start
+  left a ea =
+      ap (λ (x : Act). onAct r stack n x (λ st m. checkFrom (readOf s next) st m)) (sym ea ∙ same-act (y .turn) (r .bytes) index)
+      ∙ sym (check-more r (readOf s next) (readOf s at) stack n (reading (y .turn) (Record index from len next) (y .yields)))
+      ∙ y .turn .inv .same
+
+  roomy : (a : Act) → act ≡ a → Room (opens .depth) a
+  roomy a ea = subst (λ (x : Act). Room (opens .depth) x) ea (room (r .bytes) index (opens .depth) _ _)
+
+  pub push-room : {end : ℕ} → act ≡ Push end → opens .depth < 64
+  push-room {end} ea = roomy (Push end) ea
+
+  pub pop-room : act ≡ Pop → opens .depth ≡ 0 → ⊥
+  pop-room ea = roomy Pop ea
+
+  counts : countRec n r ≡ countedOf n (c .passed) (c .skipped) len
+  unfolding countRec
+  counts = ap (countedOf n (c .passed) (c .skipped)) (found .size)
+
+  pub go-stay : act ≡ Stay → Checking s start opens ends-of (countedOf n (c .passed) (c .skipped) len) next
+  unfolding countedOf
+  go-stay ea =
+      record {
+        stack = stack;
+        is-opens = y .turn .inv .is-opens;
+        is-ends = y .turn .inv .is-ends;
+        most = y .turn .inv .most;
+        same = ap (λ (m : Counts). checkFrom (readOf s next) stack m) (sym counts) ∙ left Stay ea;
+        records = omega (arith, y .turn .inv .records, found);
+        bytes = omega (arith, y .turn .inv .bytes, found);
+        passed = omega (arith, y .turn .inv .passed, scanned (y .turn));
+        openers = omega (arith, y .turn .inv .openers);
+      }
+
+  -- the chains after the stores that a push and a pop make
+  pub go-pop : act ≡ Pop →
+      Checking s start
+      (record { at = set (opens .at) (opens .depth - 1) 0; depth = opens .depth - 1 })
+      (record { at = set (ends-of .at) (opens .depth - 1) 0; depth = opens .depth - 1 })
+      (countedOf n (c .passed) (c .skipped) len) next
+  unfolding countedOf
+  go-pop ea =
+      let z : opens .depth ≡ 0 → ⊥ = pop-room ea in
+      let d = depth (y .turn) in
+      let e = ends-depth (y .turn) in
+      let li = length-each (λ o. o .index) stack in
+      let le = length-each (λ o. o .end) stack in
+      record {
+        stack = tail stack;
+        is-opens =
+            popped-is opens z (depth-most (y .turn))
+            ∙ ap popped (y .turn .inv .is-opens)
+            ∙ pop-tail (indexes stack) (omega (arith, y .turn .inv .most)) (λ q. z (omega arith))
+            ∙ ap chainOf (tail-each (λ o. o .index) stack);
+        is-ends =
+            ap (λ (x : ℕ). record { at = set (ends-of .at) (x - 1) 0; depth = x - 1 }) (sym e)
+            ∙ popped-is ends-of (λ q. z (sym e ∙ q)) (omega (arith, e, depth-most (y .turn)))
+            ∙ ap popped (y .turn .inv .is-ends)
+            ∙ pop-tail (ends stack) (omega (arith, y .turn .inv .most)) (λ q. z (omega arith))
+            ∙ ap chainOf (tail-each (λ o. o .end) stack);
+        most = omega (arith, y .turn .inv .most, length-tail stack);
+        same = ap (λ (m : Counts). checkFrom (readOf s next) (tail stack) m) (sym counts) ∙ left Pop ea;
+        records = omega (arith, y .turn .inv .records, found);
+        bytes = omega (arith, y .turn .inv .bytes, found);
+        passed = omega (arith, y .turn .inv .passed, scanned (y .turn));
+        openers = omega (arith, y .turn .inv .openers);
+      }
+
+  pub go-push : {end : ℕ} → act ≡ Push end →
+      Checking s start
+      (record { at = set (opens .at) (opens .depth) index; depth = opens .depth + 1 })
+      (record { at = set (ends-of .at) (opens .depth) end; depth = opens .depth + 1 })
+      (openedOf (countedOf n (c .passed) (c .skipped) len) (opens .depth)) next
+  unfolding countedOf openedOf
+  go-push {end} ea =
+      let h : opens .depth < 64 = push-room ea in
+      let d = depth (y .turn) in
+      let e = ends-depth (y .turn) in
+      let li = length-each (λ o. o .index) stack in
+      let le = length-each (λ o. o .end) stack in
+      record {
+        stack = record { index = index; end = end } ∷ stack;
+        is-opens =
+            pushed-is opens index h
+            ∙ ap (λ (x : Chain). pushed x index) (y .turn .inv .is-opens)
+            ∙ push-stack (indexes stack) index (omega arith);
+        is-ends =
+            ap (λ (x : ℕ). record { at = set (ends-of .at) x end; depth = x + 1 }) (sym e)
+            ∙ pushed-is ends-of end (omega arith)
+            ∙ ap (λ (x : Chain). pushed x end) (y .turn .inv .is-ends)
+            ∙ push-stack (ends stack) end (omega arith);
+        most = omega arith;
+        same =
+            ap (λ (m : Counts). checkFrom (readOf s next) (record { index = index; end = end } ∷ stack) m)
+            (ap (λ (x : ℕ). openedOf (countedOf n (c .passed) (c .skipped) len) x) (depth (y .turn)) ∙ ap (λ (m : Counts). openedOf m (length stack)) (sym counts))
+            ∙ left (Push end) ea;
+        records = omega (arith, y .turn .inv .records, found);
+        bytes = omega (arith, y .turn .inv .bytes, found);
+        passed = omega (arith, y .turn .inv .passed, scanned (y .turn));
+        openers = omega (arith, y .turn .inv .openers);
+      }
+
+  pub at-stop : {k : ℕ} → act ≡ Stop k → refuses k index ≡ checkOf s start
+  at-stop {k} ea = left (Stop k) ea

@@ -1,0 +1,58 @@
+-- `check_nesting::act_at` meets its contract.
+-- Assumes nothing.
+use borrow.Author.Needs.{needs}
+use mathlib.Core.Path.{sym, _∙_}
+use borrow.Author.Tests.{eq-eqb, ne-eqb}
+use Rattle.check_nesting.specs.Check.{actOf}
+use Rattle.check_nesting.proofs.act_at.Statement.{statement}
+use Rattle.check_nesting.proofs.act_at.Tie as tie
+
+role-of-requires : tie.Need-role-of-requires
+role-of-requires c κs = search needs
+
+enum-told : tie.Need-enum-told
+enum-told c = search needs
+
+open-at-requires : tie.Need-open-at-requires
+open-at-requires c κs = sym (c .before .before .role-of .ensures) ∙ c .enum-told .given .1
+
+returns : tie.Need-returns
+unfolding actOf
+returns c = rw (sym (c .before .before .before .role-of .ensures) ∙ c .before .enum-told .given .1) (c .open-at .ensures)
+
+enum-told-2 : tie.Need-enum-told-2
+enum-told-2 c = search needs
+
+returns-2 : tie.Need-returns-2
+unfolding actOf
+returns-2 c = rw (sym (c .before .before .before .role-of .ensures) ∙ c .before .enum-told2 .given .1, eq-eqb _ _ (c .if1 .taken))
+
+returns-3 : tie.Need-returns-3
+unfolding actOf
+returns-3 c = rw (sym (c .before .before .before .before .role-of .ensures) ∙ c .before .before .enum-told2 .given .1, ne-eqb _ _ (c .before .if1 .left), ne-eqb _ _ (c .if2 .taken))
+
+returns-4 : tie.Need-returns-4
+unfolding actOf
+returns-4 c = rw (sym (c .before .before .before .before .role-of .ensures) ∙ c .before .before .enum-told2 .given .1, ne-eqb _ _ (c .before .if1 .left), eq-eqb _ _ (c .if2 .left))
+
+enum-told-3 : tie.Need-enum-told-3
+enum-told-3 c = search needs
+
+returns-5 : tie.Need-returns-5
+unfolding actOf
+returns-5 c = rw (sym (c .before .before .role-of .ensures) ∙ c .enum-told3 .given .1)
+
+pub act-at-spec : {M : Type 1} → statement M
+act-at-spec =
+    tie.close
+    (tie.spec
+    role-of-requires
+    enum-told
+    open-at-requires
+    returns
+    enum-told-2
+    returns-2
+    returns-3
+    returns-4
+    enum-told-3
+    returns-5)

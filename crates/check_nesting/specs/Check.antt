@@ -1,0 +1,136 @@
+-- Check (document 01, "Check"): walks steps to End with a stack of open openers.
+use Prim.Native.Nat.{ℕ, _+_, _-_}
+use mathlib.Core.Path.{_≡_}
+use mathlib.Core.List.{List, [], _∷_, tail}
+use mathlib.Core.Bool.{cond}
+use lib.ListN.{length}
+use lib.Dec.{ltb, leb, eqb}
+use Rattle.common.specs.Reader.{refusal}
+use Rattle.constants.specs.declared.Role.{Role}
+use Rattle.constants.specs.declared.Role.the-variants.{Neither, Opens, Closes}
+use Rattle.iter.specs.Step.{within}
+use Rattle.iter.specs.Reading.{Rec, Reading, readOf}
+use Rattle.iter.specs.declared.Scan.{Scan}
+use Rattle.iter.specs.declared.Next.{Next}
+use Rattle.iter.specs.declared.Next.the-variants.{End, Refused, Record}
+use Rattle.links.specs.Links.{roleOf, linksOf}
+use Rattle.links.specs.declared.Links.{Links}
+use Rattle.links.specs.declared.Links.the-variants.{Unread, Read}
+use Rattle.check_nesting.specs.declared.Counts.{Counts}
+use Rattle.check_nesting.specs.declared.Checked.{Checked}
+use Rattle.check_nesting.specs.declared.Checked.the-variants.{Good, Refused as Refuse}
+use Rattle.check_nesting.specs.declared.Act.{Act}
+use Rattle.check_nesting.specs.declared.Act.the-variants.{Stay, Push, Pop, Refused as Stop}
+
+-- an open opener: its index and its end field. A stack lists the open openers, the innermost first.
+pub record Open : Type 0 where
+  pub index : ℕ
+  pub end : ℕ
+
+-- the innermost open index, and that opener's end field; 0 if none
+abbrev pub innerIndex : List Open → ℕ
+innerIndex [] = 0
+innerIndex (o ∷ st) = o .index
+
+abbrev pub innerEnd : List Open → ℕ
+innerEnd [] = 0
+innerEnd (o ∷ st) = o .end
+
+-- Opener: 6 if decode refuses it, 7 at position 0, 8 if its parent field is not the innermost open index (0 if none), 9 if it would be the 65th.
+abbrev pub openOf : Links → ℕ → ℕ → ℕ → Act
+openOf Unread index depth inner = Stop 6
+openOf (Read parent end) index depth inner =
+    cond (eqb index 0) (Stop 7)
+    (cond (eqb parent inner)
+    (cond (leb 64 depth) (Stop 9) (Push end))
+    (Stop 8))
+
+-- Closer: 10, then 11 if the innermost opener's end field is not this index; else that opener is closed.
+abbrev pub actOfRole : Role → List ℕ → ℕ → ℕ → ℕ → ℕ → Act
+actOfRole Opens bytes index depth inner end = openOf (linksOf bytes) index depth inner
+actOfRole Closes bytes index depth inner end = cond (eqb depth 0) (Stop 10) (cond (eqb end index) Pop (Stop 11))
+actOfRole Neither bytes index depth inner end = Stay
+
+-- what is done with a record, with so many openers open and the innermost's index and end field
+unfoldable pub actOf : List ℕ → ℕ → ℕ → ℕ → ℕ → Act
+actOf bytes index depth inner end = actOfRole (roleOf bytes) bytes index depth inner end
+
+-- records yielded and passed over, the bytes of each group (length fields included), openers, deepest nesting
+unfoldable pub noCounts : Counts
+noCounts = record { records = 0; bytes = 0; passed = 0; skipped = 0; openers = 0; deepest = 0 }
+
+-- one record more, of len bytes behind its length field, after those that its step passed over
+unfoldable pub countedOf : Counts → ℕ → ℕ → ℕ → Counts
+countedOf n passed skipped len =
+    record {
+      records = n .records + 1;
+      bytes = n .bytes + (2 + len);
+      passed = n .passed + passed;
+      skipped = n .skipped + skipped;
+      openers = n .openers;
+      deepest = n .deepest;
+    }
+
+-- one opener more, above so many
+unfoldable pub openedOf : Counts → ℕ → Counts
+openedOf n depth =
+    record {
+      records = n .records;
+      bytes = n .bytes;
+      passed = n .passed;
+      skipped = n .skipped;
+      openers = n .openers + 1;
+      deepest = cond (ltb (n .deepest) (depth + 1)) (depth + 1) (n .deepest);
+    }
+
+unfoldable pub countRec : Counts → Rec → Counts
+countRec n r = countedOf n (r .passed) (r .skipped) (length (r .bytes))
+
+abbrev pub refuses : ℕ → ℕ → Checked
+refuses number position = Refuse (refusal number position 0)
+
+-- The check from a record, where `on` is the check of the records after it. Refusals carry the record's index.
+abbrev pub onAct : Rec → List Open → Counts → Act → (List Open → Counts → Checked) → Checked
+onAct r st n Stay on = on st (countRec n r)
+onAct r st n (Push end) on = on (record { index = r .index; end = end } ∷ st) (openedOf (countRec n r) (length st))
+onAct r st n Pop on = on (tail st) (countRec n r)
+onAct r st n (Stop number) on = refuses number (r .index)
+
+-- At End: 12 with the innermost open index; else the counts, with what the last step passed over.
+unfoldable pub endOf : Counts → ℕ → ℕ → ℕ → ℕ → Checked
+endOf n passed skipped depth inner =
+    cond (eqb depth 0)
+    (Good (record {
+      records = n .records;
+      bytes = n .bytes;
+      passed = n .passed + passed;
+      skipped = n .skipped + skipped;
+      openers = n .openers;
+      deepest = n .deepest;
+    }))
+    (refuses 12 inner)
+
+-- Step's refusals with step's position. (The last step of a reading yields no record.)
+abbrev pub onLast : Scan → Next → List Open → Counts → Checked
+onLast c (End p) st n = endOf n (c .passed) (c .skipped) (length st) (innerIndex st)
+onLast c (Refused e) st n = Refuse e
+onLast c (Record index start len next) st n = endOf n (c .passed) (c .skipped) (length st) (innerIndex st)
+
+-- the check of the records that are left, and of the last step
+unfoldable pub checkOn : Scan → List Rec → List Open → Counts → Checked
+checkOn last [] st n = onLast last (last .next) st n
+checkOn last (r ∷ rs) st n =
+    onAct r st n (actOf (r .bytes) (r .index) (length st) (innerIndex st) (innerEnd st)) (λ st' n'. checkOn last rs st' n')
+
+unfoldable pub checkFrom : Reading → List Open → Counts → Checked
+unfolding checkOn
+checkFrom reading st n = checkOn (reading .last) (reading .recs) st n
+
+unfoldable pub checkOf : List ℕ → ℕ → Checked
+unfolding checkFrom
+checkOf s start = checkFrom (readOf s start) [] noCounts
+
+-- The two byte sums add up to stream length minus start, the start brought within the stream.
+abbrev pub addsUp : Checked → List ℕ → ℕ → Type 0
+addsUp (Good n) s start = n .bytes + n .skipped ≡ length s - within s start
+addsUp (Refuse e) s start = Unit

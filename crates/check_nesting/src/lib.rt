@@ -1,0 +1,221 @@
+// The nesting check: whether the links of a stream's openers say how its records lie in one another, and what it holds.
+//
+// The stack of open openers is two chains, of their indexes and of their end fields, changed in place in the loop.
+ghost use mathlib.Core.Path.{_≡_};
+ghost use Prim.Native.Nat.{_+_, _<_, _^_};
+ghost use Rattle.chain.specs.Chain.{topOf};
+ghost use Rattle.constants.specs.declared.Role.the-variants.{Opens};
+ghost use Rattle.links.specs.Links.{roleOf, linksOf};
+ghost use Rattle.check_nesting.specs.Check.{actOf, openOf, countedOf, openedOf, noCounts, endOf, refuses, checkOf, addsUp};
+use chain::Chain;
+use common::Refusal;
+use constants::Role;
+use iter::Next;
+use iter::Scan;
+use links::Links;
+
+// Records yielded and their bytes, records passed over and theirs, openers, deepest nesting.
+pub struct Counts {
+    pub records: usize,
+    pub bytes: usize,
+    pub passed: usize,
+    pub skipped: usize,
+    pub openers: usize,
+    pub deepest: usize,
+}
+
+pub enum Checked {
+    Good(Counts),
+    Refused(Refusal),
+}
+
+// What the check does with a record: an opener comes with its end field, a refusal with its number.
+pub enum Act {
+    Stay,
+    Push(u32),
+    Pop,
+    Refused(u8),
+}
+
+// The act at a record, with so many openers open and the innermost's index and end field, 0 if none.
+fn act_at(rec: &[u8], index: usize, depth: usize, inner: u32, end: u32) -> Act
+    ensures { λ r. ⌜ r ≡ actOf (now (rec .entry)) index depth inner end ⌝ }
+{
+    let role = links::role_of(rec);
+    match role {
+        Role::Opens => {
+            return open_at(rec, index, depth, inner);
+        }
+        Role::Closes => {
+            if depth == 0 {
+                return Act::Refused(10);
+            }
+            if end as usize != index {
+                return Act::Refused(11);
+            }
+            return Act::Pop;
+        }
+        Role::Neither => {
+            return Act::Stay;
+        }
+    }
+}
+
+fn open_at(rec: &[u8], index: usize, depth: usize, inner: u32) -> Act
+    requires { ⌜ roleOf (now rec) ≡ Opens ⌝ }
+    ensures { λ r. ⌜ r ≡ openOf (linksOf (now (rec .entry))) index depth inner ⌝ }
+{
+    match links::links_of(rec) {
+        Links::Unread => {
+            return Act::Refused(6);
+        }
+        Links::Read { parent, end } => {
+            if index == 0 {
+                return Act::Refused(7);
+            }
+            if parent != inner {
+                return Act::Refused(8);
+            }
+            if 64 <= depth {
+                return Act::Refused(9);
+            }
+            return Act::Push(end);
+        }
+    }
+}
+
+fn no_counts() -> Counts
+    ensures { λ r. ⌜ r ≡ noCounts ⌝ }
+{
+    Counts {
+        records: 0,
+        bytes: 0,
+        passed: 0,
+        skipped: 0,
+        openers: 0,
+        deepest: 0,
+    }
+}
+
+// One record more, of len bytes, which the step c came to.
+fn counted(n: Counts, c: Scan, len: usize) -> Counts
+    requires { ⌜ n .records + 1 < 2 ^ 64 ⌝ }
+    requires { ⌜ n .bytes + (2 + len) < 2 ^ 64 ⌝ }
+    requires { ⌜ n .passed + c .passed < 2 ^ 64 ⌝ }
+    requires { ⌜ n .skipped + c .skipped < 2 ^ 64 ⌝ }
+    ensures { λ r. ⌜ r ≡ countedOf n (c .passed) (c .skipped) len ⌝ }
+{
+    Counts {
+        records: n.records + 1,
+        bytes: n.bytes + (2 + len),
+        passed: n.passed + c.passed,
+        skipped: n.skipped + c.skipped,
+        openers: n.openers,
+        deepest: n.deepest,
+    }
+}
+
+// One opener more, above so many.
+fn opened(n: Counts, depth: usize) -> Counts
+    requires { ⌜ n .openers + 1 < 2 ^ 64 ⌝ }
+    requires { ⌜ depth + 1 < 2 ^ 64 ⌝ }
+    ensures { λ r. ⌜ r ≡ openedOf n depth ⌝ }
+{
+    let mut m = n;
+    m.openers = n.openers + 1;
+    if n.deepest < depth + 1 {
+        m.deepest = depth + 1;
+    }
+    m
+}
+
+// The answer at End, which the step c came to.
+fn at_end(n: Counts, c: Scan, depth: usize, inner: u32) -> Checked
+    requires { ⌜ n .passed + c .passed < 2 ^ 64 ⌝ }
+    requires { ⌜ n .skipped + c .skipped < 2 ^ 64 ⌝ }
+    ensures { λ r. ⌜ r ≡ endOf n (c .passed) (c .skipped) depth inner ⌝ }
+{
+    if depth == 0 {
+        return Checked::Good(Counts {
+            records: n.records,
+            bytes: n.bytes,
+            passed: n.passed + c.passed,
+            skipped: n.skipped + c.skipped,
+            openers: n.openers,
+            deepest: n.deepest,
+        });
+    }
+    refused(12, inner as usize)
+}
+
+fn refused(number: u8, position: usize) -> Checked
+    ensures { λ r. ⌜ r ≡ refuses number position ⌝ }
+{
+    Checked::Refused(Refusal {
+        number,
+        position,
+        detail: 0,
+    })
+}
+
+// The last of the first so many places, 0 if none.
+fn innermost(at: &[u32; 64], depth: usize) -> u32
+    ensures { λ r. ⌜ r ≡ topOf (record { at = now (at .entry); depth = depth }) ⌝ }
+{
+    if depth == 0 {
+        return 0;
+    }
+    let last = depth - 1;
+    if 64 <= last {
+        return 0;
+    }
+    at[last]
+}
+
+pub fn check(s: &[u8], start: usize) -> Checked
+    ensures { λ r. ⌜ r ≡ checkOf (now (s .entry)) start ⌝ }
+    ensures { λ r. ⌜ addsUp r (now (s .entry)) start ⌝ }
+{
+    let mut opens = Chain::new();
+    let mut ends = Chain::new();
+    let mut n = no_counts();
+    let mut at = start;
+    loop {
+        let c = iter::scan_at(s, at);
+        let found = c.next;
+        let depth = opens.depth;
+        let inner = innermost(&opens.at, depth);
+        match found {
+            Next::End(_) => return at_end(n, c, depth, inner),
+            Next::Refused(e) => return Checked::Refused(e),
+            Next::Record {
+                index,
+                start: from,
+                len,
+                next,
+            } => {
+                let end = innermost(&ends.at, depth);
+                n = counted(n, c, len);
+                at = next;
+                match act_at(&s[from..next], index, depth, inner, end) {
+                    Act::Stay => {}
+                    Act::Push(own) => {
+                        opens.at[depth] = index as u32;
+                        opens.depth = depth + 1;
+                        ends.at[depth] = own;
+                        ends.depth = depth + 1;
+                        n = opened(n, depth);
+                    }
+                    Act::Pop => {
+                        let last = depth - 1;
+                        opens.at[last] = 0;
+                        opens.depth = last;
+                        ends.at[last] = 0;
+                        ends.depth = last;
+                    }
+                    Act::Refused(number) => return refused(number, index),
+                }
+            }
+        }
+    }
+}

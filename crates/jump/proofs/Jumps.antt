@@ -1,0 +1,217 @@
+-- Laws of the jump finder: what a turn of the loop does to the walk that is left.
+-- Assumes nothing.
+use mathlib.Core.Path.{_≡_, refl, _∙_, ap, subst}
+use mathlib.Core.List.{List, _∷_}
+use mathlib.Core.Bool.{Bool, true, false, cond}
+use Prim.Native.Nat.{ℕ, _+_, _-_, _≤_, _<_}
+use native.Mathlib.Omega.{arith}
+use native.Mathlib.Nat.{add-assoc}
+use lib.ListN.{length, take, drop}
+use lib.Dec.{ltb, leb, eqb}
+use borrow.Author.Tests.{leb-false, ltb-false}
+use Rattle.common.specs.Reader.{refusal}
+use Rattle.common.specs.declared.Refusal.{Refusal}
+use Rattle.constants.specs.declared.Role.{Role}
+use Rattle.constants.specs.declared.Role.the-variants.{Neither, Opens, Closes}
+use Rattle.iter.specs.Step.{scanOf, stepOf}
+use Rattle.iter.specs.Reading.{Rec, recAt}
+use Rattle.iter.specs.declared.Next.{Next}
+use Rattle.iter.specs.declared.Next.the-variants as N
+use Rattle.iter.proofs.Reading.{Stepped, step-fits}
+use Rattle.chain.specs.Chain.{chainOf, pushed}
+use Rattle.chain.specs.declared.Chain.{Chain}
+use Rattle.links.specs.Links.{roleOf, linksOf}
+use Rattle.links.specs.declared.Links.{Links}
+use Rattle.links.specs.declared.Links.the-variants as K
+use Rattle.walk.specs.Finding.{Walk, seen, foundBy, refusedBy, answerOf}
+use Rattle.walk.proofs.Goings.{Going, depth-is, ends, onward, pushed-chain}
+use Rattle.jump.specs.declared.Hop.{Hop}
+use Rattle.jump.specs.declared.Hop.the-variants.{Stay, Push, Over, Found, Stop}
+use Rattle.jump.specs.declared.Land.{Land}
+use Rattle.jump.specs.declared.Land.the-variants as L
+use Rattle.jump.specs.Jump.{openHop, roleHop, hopOf, missed, landRole, landOn, landOf, yieldedAt, onLand, onHop, onStep, jumpBody, jumpBy, jumpFrom, jumpOf}
+use Rattle.jump.proofs.Fuel.{unroll}
+
+-- an opener is pushed only below 64, and a jump goes to a position after its opener
+abbrev Room : ℕ → ℕ → Hop → Type 0
+Room next d Stay = Unit
+Room next d Push = d < 64
+Room next d (Over end) = next ≤ end
+Room next d Found = Unit
+Room next d (Stop n) = Unit
+
+room-open : (l : Links) (next i d : ℕ) → Room next d (openHop l next i d)
+room-open K.Unread next i d = tt
+room-open (K.Read parent end) next i d = by (ltb end next) refl (ltb end i) (leb 64 d) refl
+  where
+    by : (a : Bool) → ltb end next ≡ a → (b e : Bool) → leb 64 d ≡ e → Room next d (cond a (Stop 13) (cond b (Over end) (cond e (Stop 9) Push)))
+    by true p b e q = tt
+    by false p true e q = ltb-false _ _ p
+    by false p false true q = tt
+    by false p false false q = leb-false _ _ q
+
+room-role : (ro : Role) (bytes : List ℕ) (next i d : ℕ) → Room next d (roleHop ro bytes next i d)
+room-role Opens bytes next i d = room-open (linksOf bytes) next i d
+room-role Closes bytes next i d = tt
+room-role Neither bytes next i d = tt
+
+room : (i index next : ℕ) (bytes : List ℕ) (d : ℕ) → Room next d (hopOf i index next bytes d)
+unfolding hopOf
+room i index next bytes d = by (eqb index i) (ltb i index)
+  where
+    by : (a b : Bool) → Room next d (cond a Found (cond b (Stop 14) (roleHop (roleOf bytes) bytes next i d)))
+    by true b = tt
+    by false true = tt
+    by false false = room-role (roleOf bytes) bytes next i d
+
+pub push-room : (i index next : ℕ) (bytes : List ℕ) (d : ℕ) → hopOf i index next bytes d ≡ Push → d < 64
+push-room i index next bytes d e = subst (λ (h : Hop). Room next d h) e (room i index next bytes d)
+
+pub over-room : (i index next : ℕ) (bytes : List ℕ) (d end : ℕ) → hopOf i index next bytes d ≡ Over end → next ≤ end
+over-room i index next bytes d end e = subst (λ (h : Hop). Room next d h) e (room i index next bytes d)
+
+-- where the step from an end field yields a record, by the record as the caller lends it
+pub land-record : (s : List ℕ) (end index from len next : ℕ) → scanOf s end .next ≡ N.Record index from len next →
+    landOf s end ≡ cond (eqb index end) (landRole (roleOf (take (next - from) (drop from s))) next) missed
+unfolding landOf
+land-record s end index from len next e =
+    let y = step-fits s end index from len next e in
+    let long : next - from ≡ len = omega arith in
+    rw (e, long)
+
+-- where a jump lands
+pub record Lands (s : List ℕ) (end after : ℕ) : Type 0 where
+  pub after-end : end + 4 ≤ after
+  pub within : after ≤ length s
+
+land-on : (s : List ℕ) (end after : ℕ) (n : Next) → scanOf s end .next ≡ n → landOn s end n ≡ L.After after → Lands s end after
+land-on s end after (N.End p) e q = absurd (let z : _≡_ {A = ℕ} 0 1 = cc in omega arith)
+land-on s end after (N.Refused x) e q = absurd (let z : _≡_ {A = ℕ} 0 1 = cc in omega arith)
+land-on s end after (N.Record index from len next) e q = by (eqb index end) (roleOf (take len (drop from s))) q
+  where
+    y : Stepped s end index from len next
+    y = step-fits s end index from len next e
+
+    by : (a : Bool) (ro : Role) → cond a (landRole ro next) missed ≡ L.After after → Lands s end after
+    by true Opens x = absurd (let z : _≡_ {A = ℕ} 0 1 = cc in omega arith)
+    by true Closes x = let z : next ≡ after = cc in omega (arith, y)
+    by true Neither x = absurd (let z : _≡_ {A = ℕ} 0 1 = cc in omega arith)
+    by false ro x = absurd (let z : _≡_ {A = ℕ} 0 1 = cc in omega arith)
+
+pub lands : (s : List ℕ) (end after : ℕ) → landOf s end ≡ L.After after → Lands s end after
+unfolding landOf
+lands s end after q = land-on s end after (scanOf s end .next) refl q
+
+-- the body calls later positions only
+module _ (s : List ℕ) (i : ℕ) (f g : ℕ → List ℕ → Walk) where
+  later-land : (r : Rec) (st : List ℕ) (end : ℕ) (l : Land) → landOf s end ≡ l → ((q : ℕ) → end < q → q ≤ length s → f q ≡ g q) → onLand r st l f ≡ onLand r st l g
+  later-land r st end (L.After after) e h = let y = lands s end after e in ap (λ (x : List ℕ → Walk). seen r (x st)) (h after (omega arith) (omega arith))
+  later-land r st end (L.Refused x) e h = refl
+
+  later-hop : (r : Rec) (at next d : ℕ) (st : List ℕ) (hop : Hop) → Room next d hop → at < next → next ≤ length s →
+      ((q : ℕ) → at < q → q ≤ length s → f q ≡ g q) → onHop s r next st hop f ≡ onHop s r next st hop g
+  later-hop r at next d st Stay ro a b h = ap (λ (x : List ℕ → Walk). seen r (x st)) (h next a b)
+  later-hop r at next d st Push ro a b h = ap (λ (x : List ℕ → Walk). seen r (x (r .index ∷ st))) (h next a b)
+  later-hop r at next d st (Over end) ro a b h =
+      ap (seen r) (later-land (yieldedAt s end) st end (landOf s end) refl (λ q u v. h q (omega arith) v))
+  later-hop r at next d st Found ro a b h = refl
+  later-hop r at next d st (Stop n) ro a b h = refl
+
+  later-step : (at : ℕ) (n : Next) → scanOf s at .next ≡ n → ((q : ℕ) → at < q → q ≤ length s → f q ≡ g q) →
+      onStep s i (scanOf s at) n f ≡ onStep s i (scanOf s at) n g
+  later-step at (N.End p) e h = refl
+  later-step at (N.Refused x) e h = refl
+  later-step at (N.Record index from len next) e h =
+      let y = step-fits s at index from len next e in
+      λ j st. later-hop (recAt s (scanOf s at) index from len) at next (length st) st (hopOf i index next (take len (drop from s)) (length st))
+      (room i index next (take len (drop from s)) (length st)) (omega (arith, y)) (omega (arith, y)) h j
+
+later-body : (s : List ℕ) (i at : ℕ) (f g : ℕ → List ℕ → Walk) → ((q : ℕ) → at < q → q ≤ length s → f q ≡ g q) → jumpBody s i f at ≡ jumpBody s i g at
+unfolding jumpBody
+later-body s i at f g h = later-step s i f g at (scanOf s at .next) refl h
+
+jump-unroll : (s : List ℕ) (i at : ℕ) → jumpFrom s i at ≡ jumpBody s i (jumpFrom s i) at
+unfolding jumpFrom jumpBy
+jump-unroll s i at = unroll (length s) (λ k q. jumpBy k s i q) (jumpBody s i) (λ k q. refl) (later-body s i) at
+
+-- The walk from a position, by what the step there says: no fuel is left in it.
+pub jump-by : (s : List ℕ) (i at : ℕ) (st : List ℕ) (n : Next) → scanOf s at .next ≡ n → jumpFrom s i at st ≡ onStep s i (scanOf s at) n (jumpFrom s i) st
+unfolding jumpBody
+jump-by s i at st n e = ap (λ (x : List ℕ → Walk). x st) (jump-unroll s i at) ∙ ap (λ (m : Next). onStep s i (scanOf s at) m (jumpFrom s i) st) e
+
+-- the loop's invariant
+abbrev pub Jumping : List ℕ → ℕ → ℕ → Chain → ℕ → ℕ → Type 0
+Jumping s start i chain at read = Going (jumpFrom s i) (length s) start chain at read
+
+module _ (s : List ℕ) (start i : ℕ) (chain : Chain) (at read : ℕ) (g : Jumping s start i chain at read) where
+  answers : (w : Walk) → jumpFrom s i at (g .stack) ≡ w → answerOf (w .out) (w .stack) (read + length (w .visited)) ≡ jumpOf s start i
+  unfolding jumpOf
+  answers = ends (jumpFrom s i) (length s) start chain at read g
+
+  pub at-end : (p : ℕ) → stepOf s at ≡ N.End p → refusedBy (refusal 14 0 0) ≡ jumpOf s start i
+  unfolding stepOf
+  at-end p e = answers _ (jump-by s i at (g .stack) (N.End p) e)
+
+  pub at-refused : (x : Refusal) → stepOf s at ≡ N.Refused x → refusedBy x ≡ jumpOf s start i
+  unfolding stepOf
+  at-refused x e = answers _ (jump-by s i at (g .stack) (N.Refused x) e)
+
+  module _ (index from len next : ℕ) (e : scanOf s at .next ≡ N.Record index from len next) where
+    abbrev r : Rec
+    r = recAt s (scanOf s at) index from len
+
+    -- the hop, at the record as the loop lends it
+    abbrev hop : Hop
+    hop = hopOf i index next (take (next - from) (drop from s)) (chain .depth)
+
+    fits : Stepped s at index from len next
+    fits = step-fits s at index from len next e
+
+    hop-is : hopOf i index next (r .bytes) (length (g .stack)) ≡ hop
+    hop-is =
+        let long : next - from ≡ len = omega (arith, fits) in
+        rw (long, depth-is (jumpFrom s i) (length s) start chain at read g)
+
+    -- the walk that is left, at each hop
+    left : (h : Hop) → hop ≡ h → jumpFrom s i at (g .stack) ≡ onHop s r next (g .stack) h (jumpFrom s i)
+    left h eh =
+        jump-by s i at (g .stack) (N.Record index from len next) e
+        ∙ ap (λ (x : Hop). onHop s r next (g .stack) x (jumpFrom s i)) (hop-is ∙ eh)
+
+    on-with : (st : List ℕ) (ch : Chain) → ch ≡ chainOf st → length st ≤ 64 → jumpFrom s i at (g .stack) ≡ seen r (jumpFrom s i next st) → Jumping s start i ch next (read + 1)
+    on-with st ch ec h l =
+        onward (jumpFrom s i) (length s) start chain at read g next 1 st ch ec h (omega (arith, fits)) (omega (arith, fits)) _ l refl refl (omega arith)
+
+    pub going-stay : hop ≡ Stay → Jumping s start i chain next (read + 1)
+    going-stay eh = on-with (g .stack) chain (g .is-chain) (g .most) (left Stay eh)
+
+    pub going-push : (ch : Chain) → ch ≡ pushed chain index → hop ≡ Push → Jumping s start i ch next (read + 1)
+    going-push ch ec eh =
+        let h : length (g .stack) < 64 = push-room i index next (r .bytes) (length (g .stack)) (hop-is ∙ eh) in
+        on-with (index ∷ g .stack) ch (pushed-chain (jumpFrom s i) (length s) start chain at read g index ch ec h) h (left Push eh)
+
+    landed : (end : ℕ) → hop ≡ Over end → (l : Land) → landOf s end ≡ l →
+        jumpFrom s i at (g .stack) ≡ seen r (onLand (yieldedAt s end) (g .stack) l (jumpFrom s i))
+    landed end eh l el = left (Over end) eh ∙ ap (λ (x : Land). seen r (onLand (yieldedAt s end) (g .stack) x (jumpFrom s i))) el
+
+    -- a jump goes on behind its opener and its closer, within the stream
+    pub over : (end after : ℕ) → hop ≡ Over end → landOf s end ≡ L.After after → (next + 4 ≤ after) × (after ≤ length s)
+    over end after eh el =
+        let h : next ≤ end = over-room i index next (take (next - from) (drop from s)) (chain .depth) end eh in
+        let y = lands s end after el in
+        (omega arith, omega arith)
+
+    pub going-over : (end after : ℕ) → hop ≡ Over end → landOf s end ≡ L.After after → Jumping s start i chain after (read + 1 + 1)
+    going-over end after eh el =
+        rw (add-assoc read 1 1)
+        (onward (jumpFrom s i) (length s) start chain at read g after 2 (g .stack) chain (g .is-chain) (g .most)
+        (omega (arith, fits, over end after eh el)) (omega (arith, over end after eh el)) _ (landed end eh (L.After after) el) refl refl (omega arith))
+
+    pub at-miss : (end : ℕ) (x : Refusal) → hop ≡ Over end → landOf s end ≡ L.Refused x → refusedBy x ≡ jumpOf s start i
+    at-miss end x eh el = answers _ (landed end eh (L.Refused x) el)
+
+    pub at-found : hop ≡ Found → foundBy chain (read + 1) ≡ jumpOf s start i
+    at-found eh = rw (g .is-chain) (answers _ (left Found eh))
+
+    pub at-stop : (n : ℕ) → hop ≡ Stop n → refusedBy (refusal n 0 0) ≡ jumpOf s start i
+    at-stop n eh = answers _ (left (Stop n) eh)

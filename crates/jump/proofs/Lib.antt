@@ -1,0 +1,2 @@
+pub mod Fuel
+pub mod Jumps

@@ -1,0 +1,11 @@
+-- `jump::astray` meets its contract.
+-- Assumes nothing.
+use mathlib.Core.Path.{refl}
+use Rattle.jump.proofs.astray.Statement.{statement}
+use Rattle.jump.proofs.astray.Tie as tie
+
+returns : tie.Need-returns
+returns c = refl
+
+pub astray-spec : {M : Type 1} → statement M
+astray-spec = tie.close (tie.spec returns)

@@ -1,0 +1,58 @@
+-- `jump::hop_at` meets its contract.
+-- Assumes nothing.
+use borrow.Author.Needs.{needs}
+use mathlib.Core.Path.{sym, _∙_}
+use borrow.Author.Tests.{le-ltb, lt-ltb, eq-eqb, ne-eqb}
+use Rattle.jump.specs.Jump.{hopOf}
+use Rattle.jump.proofs.hop_at.Statement.{statement}
+use Rattle.jump.proofs.hop_at.Tie as tie
+
+returns : tie.Need-returns
+unfolding hopOf
+returns c = rw (eq-eqb _ _ (c .if1 .taken))
+
+returns-2 : tie.Need-returns-2
+unfolding hopOf
+returns-2 c = rw (ne-eqb _ _ (c .before .if1 .left), lt-ltb _ _ (c .if2 .taken))
+
+role-of-requires : tie.Need-role-of-requires
+role-of-requires c κs = search needs
+
+enum-told : tie.Need-enum-told
+enum-told c = search needs
+
+hop-open-requires : tie.Need-hop-open-requires
+hop-open-requires c κs = sym (c .before .before .role-of .ensures) ∙ c .enum-told .given .1
+
+returns-3 : tie.Need-returns-3
+unfolding hopOf
+returns-3 c = rw (ne-eqb _ _ (c .before .before .before .before .before .if1 .left), le-ltb _ _ (c .before .before .before .before .if2 .left), sym (c .before .before .before .role-of .ensures) ∙ c .before .enum-told .given .1) (c .hop-open .ensures)
+
+enum-told-2 : tie.Need-enum-told-2
+enum-told-2 c = search needs
+
+returns-4 : tie.Need-returns-4
+unfolding hopOf
+returns-4 c = rw (ne-eqb _ _ (c .before .before .before .before .if1 .left), le-ltb _ _ (c .before .before .before .if2 .left), sym (c .before .before .role-of .ensures) ∙ c .enum-told2 .given .1)
+
+enum-told-3 : tie.Need-enum-told-3
+enum-told-3 c = search needs
+
+returns-5 : tie.Need-returns-5
+unfolding hopOf
+returns-5 c = rw (ne-eqb _ _ (c .before .before .before .before .if1 .left), le-ltb _ _ (c .before .before .before .if2 .left), sym (c .before .before .role-of .ensures) ∙ c .enum-told3 .given .1)
+
+pub hop-at-spec : {M : Type 1} → statement M
+hop-at-spec =
+    tie.close
+    (tie.spec
+    returns
+    returns-2
+    role-of-requires
+    enum-told
+    hop-open-requires
+    returns-3
+    enum-told-2
+    returns-4
+    enum-told-3
+    returns-5)

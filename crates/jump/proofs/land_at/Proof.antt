@@ -1,0 +1,111 @@
+-- `jump::land_at` meets its contract.
+-- Assumes nothing.
+use borrow.Author.Needs.{needs}
+use native.Mathlib.Omega.{arith}
+use mathlib.Core.Path.{_≡_, sym, _∙_}
+use borrow.Author.Tests.{eq-eqb, ne-eqb}
+use Rattle.iter.specs.Step.{scanOf, stepOf}
+use Rattle.iter.specs.declared.Next.the-variants.{Record}
+use Rattle.iter.proofs.Reading.{step-fits}
+use Rattle.jump.specs.Jump.{landOf}
+use Rattle.jump.proofs.Jumps.{land-record}
+use Rattle.jump.proofs.land_at.Statement.{statement}
+use Rattle.jump.proofs.land_at.Tie as tie
+
+-- the record that the step yielded
+stepped : (c : tie.After-known-told2) →
+    scanOf (c .before .before .before .before .before .args .s .now) (c .before .before .before .before .before .args .end) .next
+    ≡ Record (c .before .index .given .0 .0) (c .before .index .given .0 .1 .0) (c .before .index .given .0 .1 .1 .0) (c .before .index .given .0 .1 .1 .1 .0)
+unfolding stepOf
+stepped c = sym (c .before .before .before .step .ensures) ∙ c .before .index .given .1
+
+step-requires : tie.Need-step-requires
+step-requires c κs = search needs
+
+enum-told : tie.Need-enum-told
+enum-told c = search needs
+
+astray-requires : tie.Need-astray-requires
+astray-requires c κs = search needs
+
+returns : tie.Need-returns
+unfolding landOf stepOf
+returns c = c .astray .ensures ∙ rw (sym (c .before .before .before .step .ensures) ∙ c .before .enum-told .given .1)
+
+enum-known-e : tie.Need-enum-known-e
+enum-known-e c = search needs
+
+returns-2 : tie.Need-returns-2
+unfolding landOf stepOf
+returns-2 c = rw (sym (c .before .before .before .step .ensures) ∙ c .before .e .given .1)
+
+enum-known-index : tie.Need-enum-known-index
+enum-known-index c = search needs
+
+astray-requires-2 : tie.Need-astray-requires-2
+astray-requires-2 c κs = search needs
+
+returns-3 : tie.Need-returns-3
+returns-3 c = c .astray2 .ensures ∙ rw (land-record _ _ _ _ _ _ (stepped (c .before .before)), ne-eqb _ _ (c .before .if1 .taken))
+
+sub-role-of : tie.Need-sub-role-of
+sub-role-of c = omega (arith, step-fits _ _ _ _ _ _ (stepped (c .before)))
+
+part-role-of-start : tie.Need-part-role-of-start
+part-role-of-start c = omega (arith, step-fits _ _ _ _ _ _ (stepped (c .before)))
+
+part-role-of-end : tie.Need-part-role-of-end
+part-role-of-end c = omega (arith, step-fits _ _ _ _ _ _ (stepped (c .before)))
+
+role-of-requires : tie.Need-role-of-requires
+role-of-requires c κs = search needs
+
+enum-told-2 : tie.Need-enum-told-2
+enum-told-2 c = search needs
+
+astray-requires-3 : tie.Need-astray-requires-3
+astray-requires-3 c κs = search needs
+
+returns-4 : tie.Need-returns-4
+returns-4 c = c .astray3 .ensures ∙ rw (land-record _ _ _ _ _ _ (stepped (c .before .before .before .before .before .before)), eq-eqb _ _ (c .before .before .before .before .before .if1 .left), sym (c .before .before .before .role-of .ensures) ∙ c .before .enum-told2 .given .1)
+
+enum-told-3 : tie.Need-enum-told-3
+enum-told-3 c = search needs
+
+returns-5 : tie.Need-returns-5
+returns-5 c = rw (land-record _ _ _ _ _ _ (stepped (c .before .before .before .before .before)), eq-eqb _ _ (c .before .before .before .before .if1 .left), sym (c .before .before .role-of .ensures) ∙ c .enum-told3 .given .1)
+
+enum-told-4 : tie.Need-enum-told-4
+enum-told-4 c = search needs
+
+astray-requires-4 : tie.Need-astray-requires-4
+astray-requires-4 c κs = search needs
+
+returns-6 : tie.Need-returns-6
+returns-6 c = c .astray4 .ensures ∙ rw (land-record _ _ _ _ _ _ (stepped (c .before .before .before .before .before .before)), eq-eqb _ _ (c .before .before .before .before .before .if1 .left), sym (c .before .before .before .role-of .ensures) ∙ c .before .enum-told4 .given .1)
+
+pub land-at-spec : {M : Type 1} → statement M
+land-at-spec =
+    tie.close
+    (tie.spec
+    step-requires
+    enum-told
+    astray-requires
+    returns
+    enum-known-e
+    returns-2
+    enum-known-index
+    astray-requires-2
+    returns-3
+    sub-role-of
+    part-role-of-start
+    part-role-of-end
+    role-of-requires
+    enum-told-2
+    astray-requires-3
+    returns-4
+    enum-told-3
+    returns-5
+    enum-told-4
+    astray-requires-4
+    returns-6)
