@@ -1,0 +1,5 @@
+pub mod Nest
+pub mod Turns
+pub mod Skip
+pub mod Agree
+pub mod Agreement

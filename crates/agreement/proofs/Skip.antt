@@ -1,0 +1,105 @@
+-- From inside a scope whose end field is e, reading comes to a closer at e; and the walk to a position past e comes there too.
+-- Assumes nothing.
+use mathlib.Core.Path.{_≡_, refl, sym, _∙_, ap}
+use mathlib.Core.List.{List, [], _∷_, _++_}
+use Prim.Native.Nat.{ℕ, suc, _≤_, _<_}
+use native.Mathlib.Omega.{arith}
+use lib.ListN.{length}
+use Rattle.constants.specs.declared.Role.the-variants.{Closes}
+use Rattle.iter.specs.Step.{scanOf}
+use Rattle.iter.specs.Reading.{Rec, recAt}
+use Rattle.iter.specs.declared.Scan.{Scan}
+use Rattle.iter.specs.declared.Next.the-variants as N
+use Rattle.iter.proofs.Reading.{step-fits}
+use Rattle.iter.proofs.Records.{again}
+use Rattle.links.specs.Links.{roleOf}
+use Rattle.walk.specs.Finding.{Walk, seen}
+use Rattle.walk.proofs.Walks.{walkAt}
+use Rattle.check_nesting.specs.Check.{Open}
+use Rattle.agreement.proofs.Nest.{bytesAt, openAt, Nest, done, passes, opens, closes}
+use Rattle.agreement.proofs.Turns.{same-out, same-stack, same-count, walk-plain, walk-open, walk-close}
+
+-- the indexes of the open openers: the finders' stack
+abbrev pub idxs : List Open → List ℕ
+idxs [] = []
+idxs (o ∷ st) = o .index ∷ idxs st
+
+pub idxs-length : (st : List Open) → length (idxs st) ≡ length st
+idxs-length [] = refl
+idxs-length (o ∷ st) = ap suc (idxs-length st)
+
+-- the walk w ends as v does, and visits more records
+pub record Through (w v : Walk) : Type 0 where
+  pub outs : w .out ≡ v .out
+  pub stacks : w .stack ≡ v .stack
+  pub more : length (v .visited) < length (w .visited)
+
+pub through-one : {w v : Walk} (r : Rec) → w ≡ seen r v → Through w v
+through-one {w} {v} r e =
+    let n : length (w .visited) ≡ suc (length (v .visited)) = same-count e in
+    record { outs = same-out e; stacks = same-stack e; more = omega arith }
+
+pub through-more : {w v x : Walk} → Through w v → Through v x → Through w x
+through-more a b =
+    let m = a .more in
+    let n = b .more in
+    record { outs = a .outs ∙ b .outs; stacks = a .stacks ∙ b .stacks; more = omega arith }
+
+pub record Skip (s : List ℕ) (i p : ℕ) (gs : List Open) (e : ℕ) (fs : List Open) : Type 0 where
+  pub start : ℕ
+  pub long : ℕ
+  pub after : ℕ
+  pub from : p ≤ e
+  pub lands : scanOf s e .next ≡ N.Record e start long after
+  pub closer : roleOf (bytesAt s start long) ≡ Closes
+  pub rest : Nest s after fs
+  pub walked : e < i → Through (walkAt s i p (idxs gs)) (walkAt s i after (idxs fs))
+
+module _ (s : List ℕ) (i : ℕ) (o : Open) (fs : List Open) where
+  -- one more record, at index, in front of what is skipped
+  more-skip : {p index from len next : ℕ} (gs hs : List Open) → scanOf s p .next ≡ N.Record index from len next →
+      (index < i → walkAt s i p (idxs gs) ≡ seen (recAt s (scanOf s p) index from len) (walkAt s i next (idxs hs))) →
+      Skip s i next hs (o .end) fs → Skip s i p gs (o .end) fs
+  more-skip {p} {index} {from} {len} {next} gs hs h w r =
+      let y = step-fits s p index from len next h in
+      let f : next ≤ o .end = r .from in
+      record {
+        start = r .start;
+        long = r .long;
+        after = r .after;
+        from = omega arith;
+        lands = r .lands;
+        closer = r .closer;
+        rest = r .rest;
+        walked = λ l. through-more (through-one _ (w (omega arith))) (r .walked l);
+      }
+
+  pub skip : (pre : List Open) {p : ℕ} {gs : List Open} → Nest s p gs → gs ≡ pre ++ o ∷ fs → Skip s i p gs (o .end) fs
+  skip [] (done h) q = let z : _≡_ {A = ℕ} 0 1 = cc in absurd (omega arith)
+  skip (g ∷ pre) (done h) q = let z : _≡_ {A = ℕ} 0 1 = cc in absurd (omega arith)
+  skip pre {p} {gs} (passes {index = index} {from = from} {len = len} {next = next} h r d) q =
+      more-skip gs gs h (λ l. walk-plain s i p (idxs gs) index from len next h l r) (skip pre d q)
+  skip pre {p} {gs} (opens {index = index} {from = from} {len = len} {next = next} {end = end} h r g z u m d) q =
+      more-skip gs (openAt index end ∷ gs) h
+      (λ l. walk-open s i p (idxs gs) index from len next h l r (let f : length (idxs gs) ≡ length gs = idxs-length gs in omega arith))
+      (skip (openAt index end ∷ pre) d (ap (λ (l : List Open). openAt index end ∷ l) q))
+  skip [] {p} (closes {index = index} {from = from} {len = len} {next = next} {o = x} {st = gs} h r u d) q =
+      let a : x ≡ o = cc in
+      let c : gs ≡ fs = cc in
+      let v : index ≡ o .end = sym u ∙ ap (λ (y : Open). y .end) a in
+      let y = step-fits s p index from len next h in
+      record {
+        start = from;
+        long = len;
+        after = next;
+        from = omega arith;
+        lands = rw v at (ap (λ (k : Scan). k .next) (again s index from len next p h));
+        closer = r;
+        rest = rw c at d;
+        walked = λ l.
+            through-one (recAt s (scanOf s p) index from len)
+            (walk-close s i p (x .index) (idxs gs) index from len next h (omega arith) r
+            ∙ ap (λ (st : List Open). seen (recAt s (scanOf s p) index from len) (walkAt s i next (idxs st))) c);
+      }
+  skip (g ∷ pre) {p} (closes {index = index} {from = from} {len = len} {next = next} {o = x} {st = gs} h r u d) q =
+      more-skip _ gs h (λ l. walk-close s i p (x .index) (idxs gs) index from len next h l r) (skip pre d (cc))
