@@ -1,15 +1,28 @@
--- What push, pop and top do to the chain of a stack.
+-- A position more, a position less, and the last position of the chain of a stack.
 -- Assumes nothing.
 use mathlib.Core.Path.{_≡_, refl, sym, _∙_, ap}
 use mathlib.Core.List.{List, [], _∷_, _++_, tail, reverse, reverse-cons, append-assoc}
 use Prim.Native.Nat.{ℕ, suc, _+_, _-_, _≤_, _<_}
 use native.Mathlib.Omega.{arith}
 use native.Mathlib.Numerals.{add-one}
+use mathlib.Core.Bool.{cond}
 use lib.ListN.{length, set, getD, replicate, length-reverse}
+use lib.Dec.{leb, eqb}
 use lib.Seq.{set-at, getD-at}
 use borrow.Author.Tests.{lt-leb, ne-eqb}
-use Rattle.chain.specs.Chain.{chainOf, pushed, popped, topOf}
+use Rattle.chain.specs.Chain.{chainOf, topOf}
 use Rattle.chain.specs.declared.Chain.{Chain}
+
+-- one position more, behind the others; a full chain stays as it is
+unfoldable pub pushed : Chain → ℕ → Chain
+pushed c x = cond (leb 64 (c .depth)) c (record { at = set (c .at) (c .depth) x; depth = c .depth + 1 })
+
+-- one position less: the last one's place is 0 again; a chain of none stays as it is
+unfoldable pub popped : Chain → Chain
+popped c =
+    cond (eqb (c .depth) 0) c
+    (cond (leb 64 (c .depth - 1)) c
+    (record { at = set (c .at) (c .depth - 1) 0; depth = c .depth - 1 }))
 
 -- n unused places
 abbrev none : ℕ → List ℕ
@@ -35,7 +48,6 @@ stored st y x = set-at (reverse st) y _ x (length st) (length-reverse st)
 at-stack : (st : List ℕ) (y x : ℕ) (l : List ℕ) → l ≡ reverse st ++ y ∷ none (64 - suc (length st)) → set l (length st) x ≡ reverse st ++ x ∷ none (64 - suc (length st))
 at-stack st y x l e = ap (λ (k : List ℕ). set k (length st) x) e ∙ stored st y x
 
--- push, pop and top of a stack's chain
 pub push-stack : (st : List ℕ) (x : ℕ) → length st < 64 → pushed (chainOf st) x ≡ chainOf (x ∷ st)
 unfolding pushed chainOf
 push-stack st x h =

@@ -1,25 +1,14 @@
 -- A chain holds up to 64 positions and a count; unused places are 0 (document 01).
-use Prim.Native.Nat.{ℕ, _+_, _-_}
+use Prim.Native.Nat.{ℕ, _-_}
 use mathlib.Core.List.{List, _++_, reverse}
 use mathlib.Core.Bool.{cond}
-use lib.ListN.{length, getD, set, replicate}
+use lib.ListN.{length, getD, replicate}
 use lib.Dec.{leb, eqb}
 use Rattle.chain.specs.declared.Chain.{Chain}
 
 -- The chain of a stack, which lists the innermost position first: the chain lists the outermost first.
 unfoldable pub chainOf : List ℕ → Chain
 chainOf st = record { at = reverse st ++ replicate (64 - length st) 0; depth = length st }
-
--- one position more, behind the others; a full chain stays as it is
-unfoldable pub pushed : Chain → ℕ → Chain
-pushed c x = cond (leb 64 (c .depth)) c (record { at = set (c .at) (c .depth) x; depth = c .depth + 1 })
-
--- one position less: the last one's place is 0 again; a chain of none stays as it is
-unfoldable pub popped : Chain → Chain
-popped c =
-    cond (eqb (c .depth) 0) c
-    (cond (leb 64 (c .depth - 1)) c
-    (record { at = set (c .at) (c .depth - 1) 0; depth = c .depth - 1 }))
 
 -- the last position, 0 where there is none
 unfoldable pub topOf : Chain → ℕ

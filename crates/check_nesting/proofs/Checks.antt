@@ -21,9 +21,9 @@ use Rattle.iter.proofs.Records.{bytes-length}
 use Rattle.links.specs.Links.{roleOf, linksOf}
 use Rattle.links.specs.declared.Links.{Links}
 use Rattle.links.specs.declared.Links.the-variants.{Unread, Read}
-use Rattle.chain.specs.Chain.{chainOf, pushed, popped, topOf}
+use Rattle.chain.specs.Chain.{chainOf, topOf}
 use Rattle.chain.specs.declared.Chain.{Chain}
-use Rattle.chain.proofs.Laws.{push-stack, pop-tail, top-stack, top-none, pushed-is, popped-is}
+use Rattle.chain.proofs.Laws.{pushed, popped, push-stack, pop-tail, top-stack, top-none, pushed-is, popped-is}
 use Rattle.check_nesting.specs.declared.Counts.{Counts}
 use Rattle.check_nesting.specs.declared.Checked.the-variants.{Refused as Refuse}
 use Rattle.check_nesting.specs.declared.Act.{Act}

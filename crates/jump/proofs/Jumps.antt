@@ -18,7 +18,8 @@ use Rattle.iter.specs.Reading.{Rec, recAt}
 use Rattle.iter.specs.declared.Next.{Next}
 use Rattle.iter.specs.declared.Next.the-variants as N
 use Rattle.iter.proofs.Reading.{Stepped, step-fits}
-use Rattle.chain.specs.Chain.{chainOf, pushed}
+use Rattle.chain.specs.Chain.{chainOf}
+use Rattle.chain.proofs.Laws.{pushed}
 use Rattle.chain.specs.declared.Chain.{Chain}
 use Rattle.links.specs.Links.{roleOf, linksOf}
 use Rattle.links.specs.declared.Links.{Links}

@@ -5,9 +5,9 @@ use mathlib.Core.List.{List, [], _∷_}
 use Prim.Native.Nat.{ℕ, _+_, _-_, _≤_, _<_}
 use native.Mathlib.Omega.{arith}
 use lib.ListN.{length}
-use Rattle.chain.specs.Chain.{chainOf, pushed}
+use Rattle.chain.specs.Chain.{chainOf}
 use Rattle.chain.specs.declared.Chain.{Chain}
-use Rattle.chain.proofs.Laws.{push-stack}
+use Rattle.chain.proofs.Laws.{pushed, push-stack}
 use Rattle.walk.specs.Finding.{Walk, answerOf, findingOf}
 
 -- F is the walk from a position with a stack, and L the stream's length. The chain is that of a stack, and the walk from the start

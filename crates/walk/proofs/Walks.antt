@@ -18,9 +18,9 @@ use Rattle.iter.specs.declared.Scan.{Scan}
 use Rattle.iter.specs.declared.Next.{Next}
 use Rattle.iter.specs.declared.Next.the-variants as N
 use Rattle.iter.proofs.Reading.{Stepped, step-fits, read-by}
-use Rattle.chain.specs.Chain.{chainOf, pushed, popped}
+use Rattle.chain.specs.Chain.{chainOf}
 use Rattle.chain.specs.declared.Chain.{Chain}
-use Rattle.chain.proofs.Laws.{pop-tail, length-tail}
+use Rattle.chain.proofs.Laws.{pushed, popped, pop-tail, length-tail}
 use Rattle.links.specs.Links.{roleOf}
 use Rattle.walk.specs.declared.Turn.{Turn}
 use Rattle.walk.specs.declared.Turn.the-variants.{Stay, Push, Pop, Found, Stop}
