@@ -1,94 +1,152 @@
--- The finders agree wherever the check passes: the claim of specs/Agreement.antt.
+-- Condition 3, of the definitions: wherever the check passes, the finders agree.
 -- Assumes nothing.
 use mathlib.Core.Path.{_≡_, refl, sym, _∙_, ap, subst}
 use mathlib.Core.Logic.{_⊎_, inl, inr}
-use mathlib.Core.List.{List, [], _∷_}
+use mathlib.Core.List.{List, [], _∷_, reverse}
 use Prim.Native.Nat.{ℕ, suc, _+_, _-_, _≤_, _<_}
 use native.Mathlib.Omega.{arith}
 use lib.ListN.{length}
 use Rattle.common.specs.Reader.{refusal}
+use Rattle.constants.specs.declared.Role.the-variants.{Neither, Opens, Closes}
 use Rattle.iter.specs.Step.{scanOf}
 use Rattle.iter.specs.Reading.{Rec, Reading, recAt, readOf}
 use Rattle.iter.specs.declared.Next.the-variants as N
 use Rattle.iter.proofs.Reading.{step-fits, read-by}
 use Rattle.iter.proofs.Records.{Rising, rising}
 use Rattle.chain.specs.Chain.{chainOf}
+use Rattle.links.specs.Links.{roleOf}
 use Rattle.walk.specs.Finding.{Walk, seen, foundBy, refusedBy, answerOf, findingOf}
 use Rattle.walk.specs.declared.Outcome.{Outcome}
 use Rattle.walk.specs.declared.Outcome.the-variants.{Answer, Refused}
 use Rattle.walk.specs.Walk.{walkOf}
 use Rattle.walk.proofs.Walks.{walkAt}
 use Rattle.jump.specs.Jump.{jumpFrom, jumpOf}
-use Rattle.check_nesting.specs.Check.{Open}
-use Rattle.agreement.specs.Agreement.{Among, Begins, SameAnswer, Agreement, FindersAgree}
-use Rattle.agreement.proofs.Nest.{openAt, Nest, done, passes, opens, closes, check-nests}
-use Rattle.agreement.proofs.Turns.{same-out, walk-end, walk-same, walk-past, walk-plain, walk-open, walk-close}
+use Rattle.climb.specs.Climb.{reachedBy, climbOf}
+use Rattle.climb.specs.declared.Opener.the-variants.{Parent}
+use Rattle.check_nesting.specs.Check.{Open, innerIndex}
+use Rattle.agreement.specs.Agreement.{Some, Begins, OpenerBegins, reversed, BothAnswer, ClimbsThem, Agreement, Condition3, answersOf}
+use Rattle.agreement.proofs.Nest.{bytesAt, openAt, Nest, done, passes, opens, closes, check-nests}
+use Rattle.agreement.proofs.Turns.{same-out, same-stack, walk-end, walk-same, walk-past, walk-plain, walk-open, walk-close}
 use Rattle.agreement.proofs.Skip.{idxs, idxs-length}
 use Rattle.agreement.proofs.Agree.{Order, less, same, more, order, Agree, both, none, agree}
+use Rattle.agreement.proofs.Parents.{opener-found, Up, top, over, up-later, up-out, climb-opener, reversed-stack}
 
--- records that stand one behind the other from p on begin at p or later
-among-from : (p i : ℕ) (rs : List Rec) → Rising p rs → Among i rs → p ≤ i
-among-from p i [] ri b = absurd b
-among-from p i (r ∷ rs) ri (inl e) = let l : p ≤ r .index = ri .0 in omega arith
-among-from p i (r ∷ rs) ri (inr b) =
+-- of records that stand one behind the other from p on, one of index i lies at p or later
+some-from : (P : Rec → Type 0) (i : ℕ) → ((r : Rec) → P r → r .index ≡ i) → (p : ℕ) (rs : List Rec) → Rising p rs → Some P rs → p ≤ i
+some-from P i at p [] ri b = absurd b
+some-from P i at p (r ∷ rs) ri (inl e) = let l : p ≤ r .index = ri .0 in let f : r .index ≡ i = at r e in omega arith
+some-from P i at p (r ∷ rs) ri (inr b) =
     let l : p ≤ r .index = ri .0 in
-    let m = among-from (r .index + 2 + length (r .bytes)) i rs (ri .1) b in
+    let m = some-from P i at (r .index + 2 + length (r .bytes)) rs (ri .1) b in
     omega arith
 
-begins-from : (s : List ℕ) (p i : ℕ) → Begins s p i → p ≤ i
-begins-from s p i b = among-from p i (readOf s p .recs) (rising s p) b
+-- an opener that begins is a record that begins
+some-of : (P Q : Rec → Type 0) → ((r : Rec) → P r → Q r) → (rs : List Rec) → Some P rs → Some Q rs
+some-of P Q f [] b = absurd b
+some-of P Q f (r ∷ rs) (inl x) = inl (f r x)
+some-of P Q f (r ∷ rs) (inr b) = inr (some-of P Q f rs b)
+
+module _ (s : List ℕ) (P : Rec → Type 0) where
+  -- one of the records that steps from p yield has the property: none does at the end, and else the first one or a later one
+  abbrev From : ℕ → Type 0
+  From p = Some P (readOf s p .recs)
+
+  from-end : (p q : ℕ) → scanOf s p .next ≡ N.End q → From p → ⊥
+  from-end p q e b = subst (λ (r : Reading). Some P (r .recs)) (read-by s p (N.End q) e) b
+
+  module _ (p index from len next : ℕ) (e : scanOf s p .next ≡ N.Record index from len next) where
+    from-is : From p → P (recAt s (scanOf s p) index from len) ⊎ From next
+    from-is b = subst (λ (r : Reading). Some P (r .recs)) (read-by s p (N.Record index from len next) e) b
+
+    from-with : P (recAt s (scanOf s p) index from len) ⊎ From next → From p
+    from-with b = subst (λ (r : Reading). Some P (r .recs)) (sym (read-by s p (N.Record index from len next) e)) b
 
 module _ (s : List ℕ) (i : ℕ) where
-  begins-end : (p q : ℕ) → scanOf s p .next ≡ N.End q → Begins s p i → ⊥
-  begins-end p q e b = subst (λ (r : Reading). Among i (r .recs)) (read-by s p (N.End q) e) b
+  abbrev Is : Rec → Type 0
+  Is r = r .index ≡ i
 
-  begins-is : (p index from len next : ℕ) → scanOf s p .next ≡ N.Record index from len next → Begins s p i → (index ≡ i) ⊎ Begins s next i
-  begins-is p index from len next e b = subst (λ (r : Reading). Among i (r .recs)) (read-by s p (N.Record index from len next) e) b
+  abbrev IsOpener : Rec → Type 0
+  IsOpener r = (r .index ≡ i) × (roleOf (r .bytes) ≡ Opens)
 
-  begins-with : (p index from len next : ℕ) → scanOf s p .next ≡ N.Record index from len next → (index ≡ i) ⊎ Begins s next i → Begins s p i
-  begins-with p index from len next e b = subst (λ (r : Reading). Among i (r .recs)) (sym (read-by s p (N.Record index from len next) e)) b
+  -- the walk from p, with the openers st open
+  abbrev walk-from : ℕ → List Open → Walk
+  walk-from p st = walkAt s i p (idxs st)
 
-  -- whether a record begins at i, and whether the walk answers
+  -- climbing gives the stack of a walk, reversed
+  abbrev Climbs : Walk → Type 0
+  Climbs w = climbOf s i ≡ reachedBy (chainOf (reverse (w .stack)))
+
+  -- whether a record begins at i, and whether the walk answers; and where it is an opener, what climbing gives
   data Met (p : ℕ) (st : List Open) : Type 0 where
-    found : Begins s p i → walkAt s i p (idxs st) .out ≡ Answer → Met p st
-    lost : (Begins s p i → ⊥) → walkAt s i p (idxs st) .out ≡ Refused (refusal 14 0 0) → Met p st
+    found : Begins s p i → walk-from p st .out ≡ Answer → (OpenerBegins s p i → Climbs (walk-from p st)) → Met p st
+    lost : (Begins s p i → ⊥) → walk-from p st .out ≡ Refused (refusal 14 0 0) → Met p st
 
   module _ (p index from len next : ℕ) (st : List Open) (h : scanOf s p .next ≡ N.Record index from len next) where
     -- the record of p's step lies before i
-    past : (gs : List Open) → index < i → walkAt s i p (idxs st) ≡ seen (recAt s (scanOf s p) index from len) (walkAt s i next (idxs gs)) → Met next gs → Met p st
-    past gs l w (found b q) = found (begins-with p index from len next h (inr b)) (same-out w ∙ q)
+    past : (gs : List Open) → index < i → walk-from p st ≡ seen (recAt s (scanOf s p) index from len) (walk-from next gs) → Met next gs → Met p st
+    past gs l w (found b q c) =
+        found (from-with s Is p index from len next h (inr b)) (same-out w ∙ q)
+        (λ o.
+        elim (from-is s IsOpener p index from len next h o) [
+          | inl e ↦ (let f : index ≡ i = e .0 in absurd (omega arith))
+          | inr d ↦ c d ∙ ap (λ (x : List ℕ). reachedBy (chainOf (reverse x))) (sym (same-stack w))
+        ])
     past gs l w (lost d q) =
-        lost (λ b. elim (begins-is p index from len next h b) [ inl e ↦ absurd (omega arith) | inr c ↦ d c ]) (same-out w ∙ q)
+        lost (λ b. elim (from-is s Is p index from len next h b) [ inl e ↦ absurd (omega arith) | inr c ↦ d c ]) (same-out w ∙ q)
 
-    meets : (index < i → Met p st) → Met p st
-    meets before = by (order index i)
+    -- none that comes later begins at the index of p's step or before it
+    later : (P : Rec → Type 0) → ((r : Rec) → P r → r .index ≡ i) → i ≤ index → Some P (readOf s next .recs) → ⊥
+    later P at l b =
+        let y = step-fits s p index from len next h in
+        let f : next ≤ i = some-from P i at next (readOf s next .recs) (rising s next) b in
+        absurd (omega arith)
+
+    meets : (index < i → Met p st) → (index ≡ i → roleOf (bytesAt s from len) ≡ Opens → climbOf s i ≡ reachedBy (chainOf (reverse (idxs st)))) → Met p st
+    meets before climbs = by (order index i)
       where
         by : Order index i → Met p st
         by (less l) = before l
-        by (same e) = found (begins-with p index from len next h (inl e)) (same-out (walk-same s i p (idxs st) index from len next h e))
+        by (same e) =
+            let w = walk-same s i p (idxs st) index from len next h e in
+            found (from-with s Is p index from len next h (inl e)) (same-out w)
+            (λ o.
+            elim (from-is s IsOpener p index from len next h o) [
+              | inl d ↦ climbs e (d .1) ∙ ap (λ (x : List ℕ). reachedBy (chainOf (reverse x))) (sym (same-stack w))
+              | inr d ↦ absurd (later IsOpener (λ r x. x .0) (omega arith) d)
+            ])
         by (more l) =
             lost
             (λ b.
-            elim (begins-is p index from len next h b) [
+            elim (from-is s Is p index from len next h b) [
               | inl e ↦ absurd (omega arith)
-              | inr c ↦ (let y = step-fits s p index from len next h in let f : next ≤ i = begins-from s next i c in absurd (omega arith))
+              | inr c ↦ absurd (later Is (λ r x. x) (omega arith) c)
             ])
             (same-out (walk-past s i p (idxs st) index from len next h l))
 
-  met : (p : ℕ) (st : List Open) → Nest s p st → Met p st
-  met p st (done {q = q} h) = lost (begins-end p q h) (same-out (walk-end s i p [] q h))
-  met p st (passes {index = index} {from = from} {len = len} {next = next} h r d) =
+  met : (p : ℕ) (st : List Open) → length st ≤ 64 → Up s p st → Nest s p st → Met p st
+  met p st m u (done {q = q} h) = lost (from-end s Is p q h) (same-out (walk-end s i p [] q h))
+  met p st m u (passes {index = index} {from = from} {len = len} {next = next} h r d) =
+      let y = step-fits s p index from len next h in
       meets p index from len next st h
-      (λ a. past p index from len next st h st a (walk-plain s i p (idxs st) index from len next h a r) (met next st d))
-  met p st (opens {index = index} {from = from} {len = len} {next = next} {end = end} h r g z t o d) =
+      (λ a. past p index from len next st h st a (walk-plain s i p (idxs st) index from len next h a r)
+      (met next st m (up-later next (omega arith) u) d))
+      (λ e o. absurd (let z : Neither ≡ Opens = sym r ∙ o in let w : _≡_ {A = ℕ} 0 1 = cc in omega arith))
+  met p st m u (opens {index = index} {from = from} {len = len} {next = next} {parent = parent} {end = end} h r g z t o d) =
+      let y = step-fits s p index from len next h in
       let x : length (idxs st) ≡ length st = idxs-length st in
       let room : length (idxs st) < 64 = omega arith in
+      let opener = opener-found s p index from len next parent end h r g ∙ ap Parent t in
+      let below : Up s index st = up-later index (omega arith) u in
       meets p index from len next st h
       (λ a. past p index from len next st h (openAt index end ∷ st) a (walk-open s i p (idxs st) index from len next h a r room)
-      (met next (openAt index end ∷ st) d))
-  met p _ (closes {index = index} {from = from} {len = len} {next = next} {o = o} {st = st} h r t d) =
+      (met next (openAt index end ∷ st) o (over (omega arith) z opener below) d))
+      (λ e q. subst (λ (k : ℕ). climbOf s k ≡ reachedBy (chainOf (reverse (idxs st)))) e (climb-opener s index st opener m below))
+  met p _ m u (closes {index = index} {from = from} {len = len} {next = next} {o = o} {st = st} h r t d) =
+      let y = step-fits s p index from len next h in
       meets p index from len next (o ∷ st) h
-      (λ a. past p index from len next (o ∷ st) h st a (walk-close s i p (o .index) (idxs st) index from len next h a r) (met next st d))
+      (λ a. past p index from len next (o ∷ st) h st a (walk-close s i p (o .index) (idxs st) index from len next h a r)
+      (met next st (omega arith) (up-out next (omega arith) u) d))
+      (λ e q. absurd (let z : Closes ≡ Opens = sym r ∙ q in let w : _≡_ {A = ℕ} 0 1 = cc in omega arith))
 
 -- what a walk's end makes of its finding
 finds : (w : Walk) → w .out ≡ Answer → findingOf w ≡ foundBy (chainOf (w .stack)) (length (w .visited))
@@ -97,11 +155,16 @@ finds w e = ap (λ (x : Outcome). answerOf x (w .stack) (length (w .visited))) e
 refuses14 : (w : Walk) → w .out ≡ Refused (refusal 14 0 0) → findingOf w ≡ refusedBy (refusal 14 0 0)
 refuses14 w e = ap (λ (x : Outcome). answerOf x (w .stack) (length (w .visited))) e
 
-same-answer : (j w : Walk) → j .out ≡ Answer → w .out ≡ Answer → j .stack ≡ w .stack → length (j .visited) ≤ length (w .visited) →
-    SameAnswer (findingOf w) (findingOf j)
-same-answer j w a b e l =
+both-answer : (j w : Walk) → j .out ≡ Answer → w .out ≡ Answer → j .stack ≡ w .stack → length (j .visited) ≤ length (w .visited) →
+    BothAnswer (chainOf (w .stack)) (findingOf w) (findingOf j)
+both-answer j w a b e l =
     rw (finds j a, finds w b)
-    (record { walks = refl; jumps = refl; chains = ap chainOf e; fewer = l })
+    (record { walking-answers = refl; jumping-answers = refl; walking-finds = refl; jumping-finds = ap chainOf e; jumping-reads-no-more = l })
+
+climbs-them : (s : List ℕ) (i : ℕ) (w : Walk) → Climbs s i w → ClimbsThem (chainOf (w .stack)) (climbOf s i)
+climbs-them s i w e =
+    rw (e ∙ ap reachedBy (reversed-stack (w .stack)))
+    (record { climbing-answers = refl; climbing-finds = refl; as-many-links = refl })
 
 module _ (s : List ℕ) (start i : ℕ) where
   abbrev jumped : Walk
@@ -110,15 +173,24 @@ module _ (s : List ℕ) (start i : ℕ) where
   abbrev walked : Walk
   walked = walkAt s i start []
 
-  join : Agree jumped walked → Met s i start [] → Agreement s start i
+  join : Agree jumped walked → Met s i start [] → Agreement s start i (answersOf s start i)
   unfolding walkOf jumpOf
-  join (both a b e l) (found d q) =
-      record { there = λ x. same-answer jumped walked a b e l; absent = λ x. absurd (x d) }
+  join (both a b e l) (found d q c) =
+      record {
+        if-a-record-begins = λ x. both-answer jumped walked a b e l;
+        if-none-begins = λ x. absurd (x d);
+        if-an-opener-begins = λ o. climbs-them s i walked (c o);
+      }
   join (both a b e l) (lost x q) = let z : _≡_ {A = ℕ} 0 1 = cc in absurd (omega arith)
-  join (none a b) (found d q) = let z : _≡_ {A = ℕ} 0 1 = cc in absurd (omega arith)
-  join (none a b) (lost x q) = record { there = λ d. absurd (x d); absent = λ y. (refuses14 walked b, refuses14 jumped a) }
+  join (none a b) (found d q c) = let z : _≡_ {A = ℕ} 0 1 = cc in absurd (omega arith)
+  join (none a b) (lost x q) =
+      record {
+        if-a-record-begins = λ d. absurd (x d);
+        if-none-begins = λ y. record { walking-refuses = refuses14 walked b; jumping-refuses = refuses14 jumped a };
+        if-an-opener-begins = λ o. absurd (x (some-of (IsOpener s i) (Is s i) (λ r y. y .0) (readOf s start .recs) o));
+      }
 
-pub agreement : FindersAgree
-agreement s start i n e =
+pub condition3 : (s : List ℕ) (start i : ℕ) → Condition3 s start i (answersOf s start i)
+condition3 s start i n e =
     let d : Nest s start [] = check-nests s n start e in
-    join s start i (agree s i (suc (length s - start)) start [] (omega arith) tt d) (met s i start [] d)
+    join s start i (agree s i (suc (length s - start)) start [] (omega arith) tt d) (met s i start [] (omega arith) top d)

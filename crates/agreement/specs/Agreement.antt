@@ -1,40 +1,79 @@
--- What a passed check says of the walk finder and the jump finder (document 01, Condition 3, without its part on climbing).
-use Prim.Native.Nat.{ℕ, _≤_}
+-- Condition 3 (document 01), one claim over all streams, starts and positions, about what the calls return.
+use Prim.Native.Nat.{ℕ, _-_, _≤_}
 use mathlib.Core.Path.{_≡_}
 use mathlib.Core.Logic.{_⊎_}
-use mathlib.Core.List.{List, [], _∷_}
+use mathlib.Core.List.{List, [], _∷_, _++_, reverse}
+use lib.ListN.{take, replicate}
 use Rattle.common.specs.Reader.{refusal}
+use Rattle.constants.specs.declared.Role.the-variants.{Opens}
 use Rattle.iter.specs.Reading.{Rec, readOf}
+use Rattle.chain.specs.Chain.{chainOf}
+use Rattle.chain.specs.declared.Chain.{Chain}
+use Rattle.links.specs.Links.{roleOf}
 use Rattle.check_nesting.specs.declared.Counts.{Counts}
 use Rattle.check_nesting.specs.declared.Checked.the-variants.{Good}
 use Rattle.check_nesting.specs.Check.{checkOf}
 use Rattle.walk.specs.declared.Outcome.the-variants.{Answer}
 use Rattle.walk.specs.declared.Finding.{Finding}
 use Rattle.walk.specs.Finding.{refusedBy}
-use Rattle.walk.specs.Walk.{walkOf}
+use Rattle.walk.specs.Walk.{walkFrom, walkOf}
 use Rattle.jump.specs.Jump.{jumpOf}
+use Rattle.climb.specs.declared.Ascent.{Ascent}
+use Rattle.climb.specs.Climb.{climbOf}
+use Rattle.agreement.specs.declared.Answers.{Answers}
 
--- one of these records has index i
-abbrev pub Among : ℕ → List Rec → Type 0
-Among i [] = ⊥
-Among i (r ∷ rs) = (r .index ≡ i) ⊎ Among i rs
+-- one of these records has this property
+abbrev pub Some : (Rec → Type 0) → List Rec → Type 0
+Some P [] = ⊥
+Some P (r ∷ rs) = P r ⊎ Some P rs
 
 -- A record begins at a position if steps from the start, each made from the next position of the one before, yield that index.
 abbrev pub Begins : List ℕ → ℕ → ℕ → Type 0
-Begins s start i = Among i (readOf s start .recs)
+Begins s start i = Some (λ r. r .index ≡ i) (readOf s start .recs)
 
--- Both answer, with equal chains, count and unused places included, and jumping reads no more records than walking.
-pub record SameAnswer (walked jumped : Finding) : Type 0 where
-  pub walks : walked .out ≡ Answer
-  pub jumps : jumped .out ≡ Answer
-  pub chains : jumped .chain ≡ walked .chain
-  pub fewer : jumped .read ≤ walked .read
+-- A scope opener is a record of a kind that the check takes as an opener.
+abbrev pub OpenerBegins : List ℕ → ℕ → ℕ → Type 0
+OpenerBegins s start i = Some (λ r. (r .index ≡ i) × (roleOf (r .bytes) ≡ Opens)) (readOf s start .recs)
 
--- If a record begins at i, both answer, alike; if none does, both refuse with 14, which carries position 0 from both finders.
-pub record Agreement (s : List ℕ) (start i : ℕ) : Type 0 where
-  pub there : Begins s start i → SameAnswer (walkOf s start i) (jumpOf s start i)
-  pub absent : (Begins s start i → ⊥) → (walkOf s start i ≡ refusedBy (refusal 14 0 0)) × (jumpOf s start i ≡ refusedBy (refusal 14 0 0))
+-- The enclosing scopes at a position are the positions on the walk rule's stack when it reads the record there, before that record is
+-- pushed or pops, outermost first.
+abbrev pub enclosing : List ℕ → ℕ → ℕ → Chain
+enclosing s start i = chainOf (walkFrom i (readOf s start) [] .stack)
 
--- One claim over all streams, starts and positions: wherever the check passes, walking and jumping agree. (Climbing is no part of it.)
-abbrev pub FindersAgree : Type 0
-FindersAgree = (s : List ℕ) (start i : ℕ) (n : Counts) → checkOf s start ≡ Good n → Agreement s start i
+-- Reversed is the same count with the positions in opposite order, zeros last.
+abbrev pub reversed : Chain → Chain
+reversed c = record { at = reverse (take (c .depth) (c .at)) ++ replicate (64 - c .depth) 0; depth = c .depth }
+
+-- Jumping and walking both answer, with the same enclosing scopes in the same order, and jumping returns no greater number of records
+-- read than walking. (The same list is an equal chain, count and unused places included.)
+pub record BothAnswer (scopes : Chain) (walked jumped : Finding) : Type 0 where
+  pub walking-answers : walked .out ≡ Answer
+  pub jumping-answers : jumped .out ≡ Answer
+  pub walking-finds : walked .chain ≡ scopes
+  pub jumping-finds : jumped .chain ≡ scopes
+  pub jumping-reads-no-more : jumped .read ≤ walked .read
+
+-- Both refuse, alike, with 14, which carries position 0 from both finders.
+pub record BothRefuse (walked jumped : Finding) : Type 0 where
+  pub walking-refuses : walked ≡ refusedBy (refusal 14 0 0)
+  pub jumping-refuses : jumped ≡ refusedBy (refusal 14 0 0)
+
+-- The parent fields, climbed, give that list reversed, without a refusal and with as many links as the list has scopes.
+pub record ClimbsThem (scopes : Chain) (climbed : Ascent) : Type 0 where
+  pub climbing-answers : climbed .out ≡ Answer
+  pub climbing-finds : climbed .chain ≡ reversed scopes
+  pub as-many-links : climbed .links ≡ scopes .depth
+
+pub record Agreement (s : List ℕ) (start i : ℕ) (a : Answers) : Type 0 where
+  pub if-a-record-begins : Begins s start i → BothAnswer (enclosing s start i) (a .walked) (a .jumped)
+  pub if-none-begins : (Begins s start i → ⊥) → BothRefuse (a .walked) (a .jumped)
+  pub if-an-opener-begins : OpenerBegins s start i → ClimbsThem (enclosing s start i) (a .climbed)
+
+-- For every stream, every start from which it passes the nesting check, and every position, the answers agree.
+abbrev pub Condition3 : List ℕ → ℕ → ℕ → Answers → Type 0
+Condition3 s start i a = (n : Counts) → a .checked ≡ Good n → Agreement s start i a
+
+-- what the four calls return
+abbrev pub answersOf : List ℕ → ℕ → ℕ → Answers
+answersOf s start i =
+    record { checked = checkOf s start; walked = walkOf s start i; jumped = jumpOf s start i; climbed = climbOf s i }

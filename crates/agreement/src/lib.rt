@@ -1,3 +1,34 @@
-// Wherever the nesting check passes, the walk finder and the jump finder agree: stated in specs/Agreement.antt and proved in
-// proofs/Agreement.antt, over the definitions that the contracts of the three entry points name. There is no code here, and
-// nothing on climbing.
+// Condition 3: wherever the nesting check passes, the jump finder, the walk finder and the climb finder agree.
+//
+// The claim is stated in specs/Agreement.antt. It is the contract of a function that makes the four calls, and behind it
+// a theorem over their definitions, proofs/Agreement.antt.
+ghost use mathlib.Core.Path.{_≡_};
+ghost use Rattle.agreement.specs.Agreement.{answersOf, Condition3};
+use check_nesting::Checked;
+use climb::Ascent;
+use walk::Finding;
+
+// What the four calls return.
+pub struct Answers {
+    pub checked: Checked,
+    pub walked: Finding,
+    pub jumped: Finding,
+    pub climbed: Ascent,
+}
+
+// Asks the check of a stream from a start, and the three finders of a position in it.
+pub fn four_answers(s: &[u8], start: usize, i: usize) -> Answers
+    ensures { λ r. ⌜ r ≡ answersOf (now (s .entry)) start i ⌝ }
+    ensures { λ r. ⌜ Condition3 (now (s .entry)) start i r ⌝ }
+{
+    let checked = check_nesting::check(s, start);
+    let walked = walk::walk(s, start, i);
+    let jumped = jump::jump(s, start, i);
+    let climbed = climb::climb(s, i);
+    Answers {
+        checked,
+        walked,
+        jumped,
+        climbed,
+    }
+}

@@ -2,7 +2,9 @@
 use Prim.Native.Nat.{ℕ}
 use mathlib.Core.Path.{_≡_, refl}
 use mathlib.Core.Bool.{false}
+use mathlib.Core.Logic.{inl, inr}
 use mathlib.Core.List.{List, [], _∷_}
+use native.Mathlib.Omega.{arith}
 use lib.IntN.{negsuc}
 use Rattle.common.specs.Bytes as B
 use Rattle.common.specs.Reader.{value, refused, refusal}
@@ -25,7 +27,9 @@ use Rattle.check_nesting.specs.Check as C
 use Rattle.check_nesting.specs.declared.Checked.the-variants.{Good}
 use Rattle.walk.specs.Finding.{foundBy, refusedBy}
 use Rattle.walk.specs.Walk.{turnOf, walkOn, walkFrom, walkOf}
+use Rattle.climb.specs.Climb.{reachedBy, haltedBy, openerOf, climbOn, climbOf}
 use Rattle.jump.specs.Jump.{hopOf, landOf, yieldedAt, jumpBody, jumpBy, jumpFrom, jumpOf}
+use Rattle.agreement.specs.Agreement.{Begins, OpenerBegins}
 
 -- Stream A
 unfoldable pub streamA : List ℕ
@@ -69,6 +73,29 @@ p4-walk = refl
 p4-jump : jumpOf streamA 4 64 ≡ refusedBy (refusal 14 0 0)
 unfolding streamA jumpOf jumpFrom jumpBy jumpBody hopOf landOf yieldedAt refusedBy scanOf scanFrom frameAt B.le rawKind roleOf K.nestingRole K.roleOf K.find K.kinds linksOf decode byKind layout R._>>=_ R.uint N.run N.cstring N.symbolName S.block K.classOf
 p4-jump = refl
+
+-- P5 climb from 28: 4; one link.
+p5 : climbOf streamA 28 ≡ reachedBy (chainOf (4 ∷ []))
+unfolding streamA climbOf climbOn openerOf haltedBy stepOf scanOf scanFrom frameAt B.le rawKind roleOf K.nestingRole K.roleOf K.find K.kinds linksOf decode byKind layout R._>>=_ R.uint N.run N.cstring N.symbolName S.block K.classOf
+p5 = refl
+
+-- Condition 3 speaks of A: it passes (P1), a record begins at 52 (P2) and at 68 (P3), none at 64 (P4), and an opener at 28 (P5).
+c3-52 : Begins streamA 4 52
+unfolding streamA readOf readFrom scanOf scanFrom frameAt B.le
+c3-52 = inr (inr (inl refl))
+
+c3-64 : Begins streamA 4 64 → ⊥
+unfolding streamA readOf readFrom scanOf scanFrom frameAt B.le
+c3-64 (inl e) = absurd (omega arith)
+c3-64 (inr (inl e)) = absurd (omega arith)
+c3-64 (inr (inr (inl e))) = absurd (omega arith)
+c3-64 (inr (inr (inr (inl e)))) = absurd (omega arith)
+c3-64 (inr (inr (inr (inr (inl e))))) = absurd (omega arith)
+c3-64 (inr (inr (inr (inr (inr e))))) = absurd e
+
+c3-28 : OpenerBegins streamA 4 28
+unfolding streamA readOf readFrom scanOf scanFrom frameAt B.le rawKind roleOf K.nestingRole K.roleOf K.find K.kinds
+c3-28 = inr (inl (refl, refl))
 
 -- P6 empty stream: End at 0.
 p6 : stepOf [] 0 ≡ End 0

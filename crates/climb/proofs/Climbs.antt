@@ -1,0 +1,115 @@
+-- Laws of the climb finder: what a turn of its loop does to the climb that is left.
+-- Assumes nothing.
+use mathlib.Core.Path.{_≡_, refl, sym, _∙_, ap}
+use mathlib.Core.List.{List, [], _∷_}
+use mathlib.Core.Bool.{cond}
+use Prim.Native.Nat.{ℕ, zero, suc, _-_, _≤_, _<_}
+use native.Mathlib.Omega.{arith}
+use lib.ListN.{length, take, drop}
+use lib.Dec.{leb, eqb}
+use borrow.Author.Tests.{le-leb, lt-leb, eq-eqb, ne-eqb}
+use Rattle.common.specs.declared.Refusal.{Refusal}
+use Rattle.iter.specs.Step.{scanOf, stepOf}
+use Rattle.iter.specs.declared.Next.{Next}
+use Rattle.iter.specs.declared.Next.the-variants as N
+use Rattle.iter.proofs.Reading.{step-fits}
+use Rattle.links.specs.Links.{roleOf}
+use Rattle.chain.specs.Chain.{chainOf}
+use Rattle.chain.specs.declared.Chain.{Chain}
+use Rattle.chain.proofs.Laws.{pushed, push-stack}
+use Rattle.climb.specs.declared.Ascent.{Ascent}
+use Rattle.climb.specs.declared.Opener.{Opener}
+use Rattle.climb.specs.declared.Opener.the-variants as O
+use Rattle.climb.specs.Climb.{reachedBy, halts, openerRefused, openerIn, openerOn, openerOf, onParent, climbOn}
+
+-- where the step yields a record, by the record as the caller lends it
+pub opener-record : (s : List ℕ) (at index from len next : ℕ) → scanOf s at .next ≡ N.Record index from len next →
+    openerOf s at ≡ cond (eqb index at) (openerIn (take (next - from) (drop from s)) (roleOf (take (next - from) (drop from s)))) (openerRefused 14)
+unfolding openerOf stepOf
+opener-record s at index from len next e =
+    let y = step-fits s at index from len next e in
+    let long : next - from ≡ len = omega arith in
+    rw (e, long)
+
+-- an opener that is read lies within a stream that steps take
+pub record Read (s : List ℕ) (at : ℕ) : Type 0 where
+  pub inside : at < length s
+  pub small : length s ≤ 4294967295
+
+pub opener-read : (s : List ℕ) (at parent : ℕ) → openerOf s at ≡ O.Parent parent → Read s at
+unfolding openerOf stepOf
+opener-read s at parent o = by (scanOf s at .next) refl o
+  where
+    by : (n : Next) → scanOf s at .next ≡ n → openerOn s at n ≡ O.Parent parent → Read s at
+    by (N.End p) e o' = absurd (let z : _≡_ {A = ℕ} 0 1 = cc in omega arith)
+    by (N.Refused x) e o' = absurd (let z : _≡_ {A = ℕ} 0 1 = cc in omega arith)
+    by (N.Record index from len next) e o' = let y = step-fits s at index from len next e in record { inside = omega arith; small = omega arith }
+
+-- a turn of the climb: at the top, with no room for a link, at a parent that is not below, and at one below
+module _ (s : List ℕ) (index parent : ℕ) (st : List ℕ) where
+  pub climb-top : (room : ℕ) → parent ≡ 0 → climbOn room s index parent st ≡ reachedBy (chainOf st)
+  unfolding climbOn
+  climb-top zero e = rw (eq-eqb parent 0 e)
+  climb-top (suc room) e = rw (eq-eqb parent 0 e)
+
+  pub climb-full : ¬ (parent ≡ 0) → climbOn 0 s index parent st ≡ halts 9
+  unfolding climbOn
+  climb-full z = rw (ne-eqb parent 0 z)
+
+  pub climb-above : (room : ℕ) → ¬ (parent ≡ 0) → index ≤ parent → climbOn (suc room) s index parent st ≡ halts 13
+  unfolding climbOn
+  climb-above room z h = rw (ne-eqb parent 0 z, le-leb index parent h)
+
+  pub climb-below : (room : ℕ) (o : Opener) → ¬ (parent ≡ 0) → parent < index → openerOf s parent ≡ o →
+      climbOn (suc room) s index parent st ≡ onParent o (λ next. climbOn room s parent next (parent ∷ st))
+  unfolding climbOn
+  climb-below room o z h e = rw (ne-eqb parent 0 z, lt-leb index parent h, e)
+
+-- The loop's invariant: the chain is that of the links made, and the climb from the opener ends as the climb from here does.
+pub record Climbing (s : List ℕ) (i first : ℕ) (chain : Chain) (index parent : ℕ) : Type 0 where
+  pub links : List ℕ
+  pub is-chain : chain ≡ chainOf links
+  pub most : length links ≤ 64
+  pub same : climbOn 64 s i first [] ≡ climbOn (64 - length links) s index parent links
+
+pub climbing-first : (s : List ℕ) (i first : ℕ) (chain : Chain) → chain ≡ chainOf [] → Climbing s i first chain i first
+climbing-first s i first chain e = record { links = []; is-chain = e; most = omega arith; same = refl }
+
+module _ (s : List ℕ) (i first : ℕ) (chain : Chain) (index parent : ℕ) (g : Climbing s i first chain index parent) where
+  depth-is : chain .depth ≡ length (g .links)
+  unfolding chainOf
+  depth-is = ap (λ (c : Chain). c .depth) (g .is-chain)
+
+  pub at-top : parent ≡ 0 → reachedBy chain ≡ climbOn 64 s i first []
+  at-top e = ap reachedBy (g .is-chain) ∙ sym (g .same ∙ climb-top s index parent (g .links) (64 - length (g .links)) e)
+
+  pub at-full : ¬ (parent ≡ 0) → 64 ≤ chain .depth → halts 9 ≡ climbOn 64 s i first []
+  at-full z h =
+      let none : 64 - length (g .links) ≡ 0 = omega (arith, depth-is) in
+      sym (g .same ∙ ap (λ (n : ℕ). climbOn n s index parent (g .links)) none ∙ climb-full s index parent (g .links) z)
+
+  -- with room for one more link
+  module _ (z : ¬ (parent ≡ 0)) (h : chain .depth < 64) where
+    left : climbOn 64 s i first [] ≡ climbOn (suc (63 - length (g .links))) s index parent (g .links)
+    left =
+        let one : 64 - length (g .links) ≡ suc (63 - length (g .links)) = omega (arith, depth-is) in
+        g .same ∙ ap (λ (n : ℕ). climbOn n s index parent (g .links)) one
+
+    pub at-above : index ≤ parent → halts 13 ≡ climbOn 64 s i first []
+    at-above l = sym (left ∙ climb-above s index parent (g .links) (63 - length (g .links)) z l)
+
+    pub at-missing : parent < index → (e : Refusal) → openerOf s parent ≡ O.Refused e → halts 13 ≡ climbOn 64 s i first []
+    at-missing l e o = sym (left ∙ climb-below s index parent (g .links) (63 - length (g .links)) (O.Refused e) z l o)
+
+    pub going-up : parent < index → (next : ℕ) → openerOf s parent ≡ O.Parent next → (ch : Chain) → ch ≡ pushed chain parent → Climbing s i first ch parent next
+    going-up l next o ch ec =
+        let room : length (g .links) < 64 = omega (arith, depth-is) in
+        record {
+          links = parent ∷ g .links;
+          is-chain = ec ∙ ap (λ (c : Chain). pushed c parent) (g .is-chain) ∙ push-stack (g .links) parent room;
+          most = room;
+          same =
+              left
+              ∙ climb-below s index parent (g .links) (63 - length (g .links)) (O.Parent next) z l o
+              ∙ ap (λ (n : ℕ). climbOn n s parent next (parent ∷ g .links)) (let e : 63 - length (g .links) ≡ 64 - suc (length (g .links)) = omega arith in e);
+        }
