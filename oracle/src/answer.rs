@@ -1,9 +1,12 @@
-//! The operations, each answered by pdb.
+//! The operations, answered by pdb; the check and the finders by plain code over it.
 
 use fallible_iterator::FallibleIterator;
 use scroll::ctx::TryFromCtx;
 
 use crate::common::*;
+use crate::list::Question;
+use crate::nesting;
+use crate::reading::{self, decode, symbols_from, Reading, Refusal};
 use crate::symbol::*;
 use crate::words::{class_and_fields, Answer, Words};
 
@@ -42,6 +45,10 @@ ops! {
     Register "register" 35;
     Scope "scope" 36;
     Annotation "annotation" 37;
+    Check "check" 40;
+    Walk "walk" 41;
+    Jump "jump" 42;
+    Climb "climb" 43;
 }
 
 impl Op {
@@ -64,56 +71,22 @@ impl Op {
 }
 
 /// The words of the answer: 0 and the values, or the refusal's number, position and detail.
-pub fn answer(op: Op, arg: u64, bytes: &[u8]) -> Vec<u64> {
-    match reply(op, arg, bytes) {
+pub fn answer(question: &Question) -> Vec<u64> {
+    match reply(question) {
         Ok(answer) => [vec![0], answer.words].concat(),
         Err(refusal) => vec![refusal.number, refusal.position, refusal.detail],
     }
 }
 
-#[derive(Default)]
-struct Refusal {
-    number: u64,
-    position: u64,
-    detail: u64,
-}
+type Reply<'b> = Reading<Answer<'b>>;
 
-impl Refusal {
-    fn new(number: u64) -> Self {
-        Refusal {
-            number,
-            ..Refusal::default()
-        }
-    }
-
-    fn at(self, position: usize) -> Self {
-        let position = position as u64;
-        Refusal { position, ..self }
-    }
-
-    fn about(self, detail: impl Into<u64>) -> Self {
-        let detail = detail.into();
-        Refusal { detail, ..self }
-    }
-}
-
-impl From<Error> for Refusal {
-    fn from(error: Error) -> Self {
-        match error {
-            Error::UnexpectedEof => Refusal::new(1),
-            Error::SymbolTooShort => Refusal::new(2),
-            Error::UnimplementedSymbolKind(kind) => Refusal::new(3).about(kind),
-            Error::UnexpectedNumericPrefix(prefix) => Refusal::new(4).about(prefix),
-            Error::InvalidCompressedAnnotation => Refusal::new(15),
-            Error::UnknownBinaryAnnotation(code) => Refusal::new(16).about(code),
-            other => panic!("pdb refuses in a way that has no number: {other}"),
-        }
-    }
-}
-
-type Reply<'b> = std::result::Result<Answer<'b>, Refusal>;
-
-fn reply(op: Op, arg: u64, bytes: &[u8]) -> Reply<'_> {
+fn reply(question: &Question) -> Reply<'_> {
+    let Question {
+        op,
+        arg,
+        start,
+        ref bytes,
+    } = *question;
     match op {
         Op::U8 => read(bytes, arg, ParseBuffer::parse_u8),
         Op::U16 => read(bytes, arg, ParseBuffer::parse_u16),
@@ -126,15 +99,24 @@ fn reply(op: Op, arg: u64, bytes: &[u8]) -> Reply<'_> {
         Op::Pascal => read(bytes, arg, ParseBuffer::parse_u8_pascal_string),
         Op::Numeric => read(bytes, arg, ParseBuffer::parse::<Variant>),
         Op::Kind => Ok(kind(arg as u16)),
-        Op::Processor => Ok(Answer::new(bytes, 0).put(CPUType::from(arg as u16))),
-        Op::Language => Ok(Answer::new(bytes, 0).put(SourceLanguage::from(arg as u8))),
+        Op::Processor => Ok(whole(bytes, CPUType::from(arg as u16))),
+        Op::Language => Ok(whole(bytes, SourceLanguage::from(arg as u8))),
         Op::Step => step(bytes, arg),
-        Op::Decode => decode(bytes),
+        Op::Decode => fields(bytes),
         Op::Name => name(bytes),
         Op::Register => register(bytes, arg),
         Op::Scope => Ok(scope(bytes)),
         Op::Annotation => annotation(bytes, arg),
+        Op::Check => Ok(whole(bytes, nesting::check(bytes, start)?)),
+        Op::Walk => Ok(whole(bytes, nesting::walk(bytes, start, arg)?)),
+        Op::Jump => Ok(whole(bytes, nesting::jump(bytes, start, arg)?)),
+        Op::Climb => Ok(whole(bytes, nesting::climb(bytes, arg)?)),
     }
+}
+
+/// An answer that is one value.
+fn whole(bytes: &[u8], value: impl Words) -> Answer<'_> {
+    Answer::new(bytes, 0).put(value)
 }
 
 fn place(arg: u64) -> usize {
@@ -178,33 +160,22 @@ pub fn class(kind: u16) -> u64 {
 
 /// The end of the stream (0) or a record (1), and the iterator's position.
 fn step(stream: &[u8], at: u64) -> Reply<'_> {
-    let mut symbols = SymbolIter::new(ParseBuffer::from(stream));
-    // No stream here is longer than pdb's positions reach.
-    symbols.seek(SymbolIndex(u32::try_from(at).unwrap_or(u32::MAX)));
-    let symbol = symbols.next();
+    let mut symbols = symbols_from(stream, at);
+    let symbol = reading::step(&mut symbols)?;
     let next = symbols.pos();
     let answer = Answer::new(stream, next);
-    match symbol {
-        Ok(None) => Ok(answer.put(0).put(next)),
-        Ok(Some(symbol)) => Ok(answer
+    Ok(match symbol {
+        None => answer.put(0).put(next),
+        Some(symbol) => answer
             .put(1)
             .put(symbol.index())
             .put(symbol.raw_bytes())
-            .put(next)),
-        Err(error) => Err(Refusal::from(error).at(next)),
-    }
+            .put(next),
+    })
 }
 
-/// pdb has no limit; 5 is document 01's.
-fn symbol(record: &[u8]) -> std::result::Result<(SymbolData<'_>, usize), Refusal> {
-    if record.len() > u16::MAX.into() {
-        return Err(Refusal::new(5));
-    }
-    Ok(SymbolData::try_from_ctx(record, ())?)
-}
-
-fn decode(record: &[u8]) -> Reply<'_> {
-    let (symbol, consumed) = symbol(record)?;
+fn fields(record: &[u8]) -> Reply<'_> {
+    let (symbol, consumed) = decode(record)?;
     let (class, fields) = class_and_fields(&symbol);
     Ok(Answer::new(record, consumed)
         .put(class)
@@ -213,12 +184,12 @@ fn decode(record: &[u8]) -> Reply<'_> {
 }
 
 fn name(record: &[u8]) -> Reply<'_> {
-    let (symbol, consumed) = symbol(record)?;
+    let (symbol, consumed) = decode(record)?;
     Ok(Answer::new(record, consumed).put(symbol.name()))
 }
 
 fn register(record: &[u8], k: u64) -> Reply<'_> {
-    let (symbol, consumed) = symbol(record)?;
+    let (symbol, consumed) = decode(record)?;
     let entry = match &symbol {
         SymbolData::MultiRegisterVariable(list) => list.registers.get(place(k)),
         _ => None,

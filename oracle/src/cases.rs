@@ -5,9 +5,9 @@ use std::iter;
 use crate::answer::Op;
 use crate::list::Question;
 use crate::random::Random;
-use crate::{numbers, records, steps};
+use crate::{numbers, records, scopes, steps};
 
-pub const GROUPS: &str = "constants, numbers, records, steps, real";
+pub const GROUPS: &str = "constants, numbers, records, steps, nesting, real";
 
 pub type Questions = Box<dyn Iterator<Item = Question>>;
 
@@ -20,7 +20,8 @@ pub fn questions(group: &str, count: u64, seed: u64) -> Option<Questions> {
         "numbers" => Some(mixed(numbers::grid, numbers::question, count, random)),
         "records" => Some(mixed(records::grid, records::question, count, random)),
         "steps" => Some(mixed(steps::grid, steps::question, count, random)),
-        "real" => Some(mixed(|_| Vec::new(), steps::real_question, count, random)),
+        "nesting" => Some(mixed(scopes::grid, scopes::question, count, random)),
+        "real" => Some(mixed(|_| Vec::new(), scopes::real_question, count, random)),
         _ => None,
     }
 }

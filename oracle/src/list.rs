@@ -1,23 +1,32 @@
 //! Lists of cases: blocks of a fixed length, the last one shorter, so that a reader needs one
 //! buffer. A block holds whole cases; zeros fill it up, and no op is 0. A case is its op (u8),
-//! arg, number of bytes, bytes, number of words, words; every number but the op in unsigned
-//! LEB128.
+//! arg, start, number of bytes, bytes, number of words, words; every number but the op in
+//! unsigned LEB128.
 
 use std::fmt;
 use std::io::{self, Read, Write};
 
 use crate::answer::Op;
 
+/// What an op is asked: an argument, where reading starts, and the lent bytes. What an op has
+/// no use for is 0.
 pub struct Question {
     pub op: Op,
     pub arg: u64,
+    pub start: u64,
     pub bytes: Vec<u8>,
 }
 
 impl Question {
     pub fn new(op: Op, arg: usize, bytes: Vec<u8>) -> Self {
         let arg = arg as u64;
-        Question { op, arg, bytes }
+        let start = 0;
+        Question {
+            op,
+            arg,
+            start,
+            bytes,
+        }
     }
 }
 
@@ -58,9 +67,15 @@ impl<W: Write> Writer<W> {
 }
 
 fn encode(case: &Case) -> Vec<u8> {
-    let Question { op, arg, bytes } = &case.question;
+    let Question {
+        op,
+        arg,
+        start,
+        bytes,
+    } = &case.question;
     let mut out = vec![*op as u8];
     encode_number(&mut out, *arg);
+    encode_number(&mut out, *start);
     encode_number(&mut out, bytes.len() as u64);
     out.extend(bytes);
     encode_number(&mut out, case.words.len() as u64);
@@ -89,13 +104,19 @@ pub fn read_block(list: &mut impl Read) -> io::Result<Option<Vec<u8>>> {
 pub fn take_case(block: &mut &[u8]) -> io::Result<Case> {
     let op = Op::numbered(take(block, 1)?[0]).ok_or_else(|| malformed("there is no such op"))?;
     let arg = take_number(block)?;
+    let start = take_number(block)?;
     let length = take_number(block)?;
     let bytes = take(block, length)?.to_vec();
     let count = take_number(block)?;
     let words = (0..count)
         .map(|_| take_number(block))
         .collect::<io::Result<_>>()?;
-    let question = Question { op, arg, bytes };
+    let question = Question {
+        op,
+        arg,
+        start,
+        bytes,
+    };
     Ok(Case { question, words })
 }
 
@@ -133,7 +154,7 @@ fn malformed(reason: &str) -> io::Error {
 
 impl fmt::Display for Question {
     fn fmt(&self, f: &mut fmt::Formatter) -> fmt::Result {
-        write!(f, "{} {} ", self.op.name(), self.arg)?;
+        write!(f, "{} {} {} ", self.op.name(), self.arg, self.start)?;
         if self.bytes.is_empty() {
             return write!(f, "-");
         }
@@ -143,16 +164,15 @@ impl fmt::Display for Question {
     }
 }
 
-/// A question as a person writes it: `OP ARG HEX`, with `-` for no bytes.
+/// A question as a person writes it: `OP ARG START HEX`, with `-` for no bytes.
 pub fn parse_question(line: &str) -> Result<Question, String> {
     let fields: Vec<&str> = line.split_whitespace().collect();
-    let [op, arg, hex] = fields[..] else {
-        return Err(format!("{line:?} is not of the form OP ARG HEX"));
+    let [op, arg, start, hex] = fields[..] else {
+        return Err(format!("{line:?} is not of the form OP ARG START HEX"));
     };
     let op = Op::named(op).ok_or_else(|| format!("there is no op {op:?}"))?;
-    let arg = arg
-        .parse()
-        .map_err(|_| format!("{arg:?} is not a number of 64 bits"))?;
+    let arg = parse_number(arg)?;
+    let start = parse_number(start)?;
     if arg > op.largest() {
         return Err(format!(
             "{arg} is above {}, the largest {}",
@@ -161,7 +181,18 @@ pub fn parse_question(line: &str) -> Result<Question, String> {
         ));
     }
     let bytes = parse_hex(hex).ok_or_else(|| format!("{hex:?} is not in hexadecimal"))?;
-    Ok(Question { op, arg, bytes })
+    Ok(Question {
+        op,
+        arg,
+        start,
+        bytes,
+    })
+}
+
+pub fn parse_number(number: &str) -> Result<u64, String> {
+    number
+        .parse()
+        .map_err(|_| format!("{number:?} is not a number of 64 bits"))
 }
 
 fn parse_hex(hex: &str) -> Option<Vec<u8>> {

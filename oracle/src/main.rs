@@ -1,12 +1,15 @@
-//! The oracle: pdb's own answers, to which the port is held.
+//! The oracle: the answers to which the port is held, pdb's own and those of plain code over it.
 
 mod answer;
 mod cases;
 mod list;
+mod nesting;
 mod numbers;
 mod pdb;
 mod random;
+mod reading;
 mod records;
+mod scopes;
 mod steps;
 mod words;
 
@@ -20,12 +23,12 @@ use fallible_iterator::FallibleIterator;
 use pdb::{common, msf, symbol, tpi};
 
 use answer::answer;
-use list::Case;
+use list::{parse_number, Case};
 
 const USAGE: &str =
-    "usage: oracle answer                   questions in lines OP ARG HEX to answers
+    "usage: oracle answer                   questions in lines OP ARG START HEX to answers
        oracle list GROUP COUNT SEED .. a list of questions with answers, of one group or more
-       oracle text                     a list to lines OP ARG HEX = WORDS";
+       oracle text                     a list to lines OP ARG START HEX = WORDS";
 
 fn main() -> ExitCode {
     let args: Vec<String> = std::env::args().skip(1).collect();
@@ -52,7 +55,7 @@ fn answer_lines() -> Outcome {
     for (place, line) in io::stdin().lock().lines().enumerate() {
         let question = list::parse_question(&line?);
         let question = question.map_err(|reason| format!("line {}: {reason}", place + 1))?;
-        let words = answer(question.op, question.arg, &question.bytes);
+        let words = answer(&question);
         writeln!(out, "{}", list::text(&words))?;
     }
     Ok(())
@@ -64,23 +67,18 @@ fn write_list(groups: &[&str]) -> Outcome {
         let [group, count, seed] = *group else {
             return Err(USAGE.into());
         };
-        let questions = cases::questions(group, number(count)?, number(seed)?)
+        let questions = cases::questions(group, parse_number(count)?, parse_number(seed)?)
             .ok_or_else(|| format!("{group:?} is none of the groups: {}", cases::GROUPS))?;
         // How many cases of each op came out with each number.
         let mut outcomes = BTreeMap::new();
         for question in questions {
-            let words = answer(question.op, question.arg, &question.bytes);
+            let words = answer(&question);
             *outcomes.entry((question.op as u8, words[0])).or_insert(0) += 1;
             out.write(&Case { question, words })?;
         }
         summarize(group, &outcomes);
     }
     Ok(out.finish()?)
-}
-
-fn number(text: &str) -> Result<u64, String> {
-    text.parse()
-        .map_err(|_| format!("{text:?} is not a number of 64 bits"))
 }
 
 fn summarize(group: &str, outcomes: &BTreeMap<(u8, u64), u64>) {

@@ -91,7 +91,12 @@ pub fn question(random: &mut Random) -> Question {
         Some(rest) if op == Op::Numeric => put_prefix(random, rest),
         _ => {}
     }
-    Question { op, arg: at, bytes }
+    Question {
+        op,
+        arg: at,
+        start: 0,
+        bytes,
+    }
 }
 
 /// A position within the bytes, about their end, or far beyond.

@@ -308,8 +308,12 @@ pub fn question(random: &mut Random) -> Question {
         Op::Register => entry(&record, random),
         _ => 0,
     };
-    let bytes = record;
-    Question { op, arg, bytes }
+    Question {
+        op,
+        arg,
+        start: 0,
+        bytes: record,
+    }
 }
 
 pub fn kind(random: &mut Random) -> u16 {
@@ -332,7 +336,7 @@ fn any_body(kind: u16, random: &mut Random) -> Vec<u8> {
     [kind.to_le_bytes().to_vec(), random.bytes(length)].concat()
 }
 
-fn damage(kind: u16, record: &mut Vec<u8>, random: &mut Random) {
+pub fn damage(kind: u16, record: &mut Vec<u8>, random: &mut Random) {
     let tail = 2 + layout(kind).0;
     let place = random.below(record.len());
     match random.below(6) {
@@ -340,8 +344,9 @@ fn damage(kind: u16, record: &mut Vec<u8>, random: &mut Random) {
         1 => record.truncate(record.len() - 1),
         2 => record[place] = random.number() as u8,
         // A name without its zero.
-        3 => record[tail..]
+        3 => record
             .iter_mut()
+            .skip(tail)
             .for_each(|byte| *byte = (*byte).max(1)),
         // A name's length, a count, a prefix or a thunk's code is off by a little or by much.
         4 => record

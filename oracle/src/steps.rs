@@ -28,40 +28,9 @@ pub fn question(random: &mut Random) -> Question {
     Question {
         op: Op::Step,
         arg,
+        start: 0,
         bytes: stream,
     }
-}
-
-const REAL: &[u8] = include_bytes!("../../examples/nested.sym");
-
-/// A step in a damaged copy of a real stream.
-pub fn real_question(random: &mut Random) -> Question {
-    let starts = starts(REAL);
-    let mut stream = REAL.to_vec();
-    for _ in 0..random.below(4) {
-        let at = random.below(stream.len());
-        stream[at] = random.number() as u8;
-    }
-    if random.one_in(2) {
-        damage(&mut stream, &starts, random);
-    }
-    Question {
-        op: Op::Step,
-        arg: position(REAL.len(), &starts, random),
-        bytes: stream,
-    }
-}
-
-/// Where the records of a whole stream start, its end included.
-fn starts(stream: &[u8]) -> Vec<usize> {
-    let mut starts = vec![4];
-    while let Some(&[low, high]) = stream
-        .get(starts[starts.len() - 1]..)
-        .and_then(|rest| rest.first_chunk())
-    {
-        starts.push(starts[starts.len() - 1] + 2 + usize::from(u16::from_le_bytes([low, high])));
-    }
-    starts
 }
 
 /// A stream and where its records start, its end included.
@@ -78,7 +47,7 @@ fn stream(random: &mut Random) -> (Vec<u8>, Vec<usize>) {
     (stream, starts)
 }
 
-fn record(random: &mut Random) -> Vec<u8> {
+pub fn record(random: &mut Random) -> Vec<u8> {
     if random.one_in(3) {
         let filler: u16 = random.pick(&[S_ALIGN, S_SKIP]);
         let length = random.below(8);
@@ -94,7 +63,7 @@ fn record(random: &mut Random) -> Vec<u8> {
     record
 }
 
-fn damage(stream: &mut Vec<u8>, starts: &[usize], random: &mut Random) {
+pub fn damage(stream: &mut Vec<u8>, starts: &[usize], random: &mut Random) {
     let start = random.pick(starts);
     let length = match random.below(6) {
         0 => 0,
@@ -111,9 +80,9 @@ fn damage(stream: &mut Vec<u8>, starts: &[usize], random: &mut Random) {
     }
 }
 
-/// Mostly a record's start; else anywhere, about the end, or beyond 32 bits.
-fn position(length: usize, starts: &[usize], random: &mut Random) -> u64 {
-    let start = starts[random.below(starts.len() - 1)] as u64;
+/// Mostly one of the starts; else anywhere, about the end, or beyond 32 bits.
+pub fn position(length: usize, starts: &[usize], random: &mut Random) -> u64 {
+    let start = random.pick(starts) as u64;
     match random.below(16) {
         0 => random.below(length + 1) as u64,
         1 => length.saturating_sub(random.below(5)) as u64,

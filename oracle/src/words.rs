@@ -1,6 +1,7 @@
-//! pdb's values as the words of an answer.
+//! Values as the words of an answer: pdb's, and those of the check and the finders.
 
 use crate::common::*;
+use crate::nesting::{Counts, Found, Group, LIMIT};
 use crate::symbol::*;
 
 /// The words of an answer about some lent bytes, of which those before `next` were read.
@@ -91,6 +92,8 @@ fields! {
     RegisterRelativeSymbol<'_> { offset type_index register name }
     ThunkSymbol<'_> { parent end next offset len kind name }
     SeparatedCodeSymbol { parent end len flags offset parent_offset }
+    Group { records bytes }
+    Counts { yielded passed openers deepest }
 }
 
 /// A bit for each flag, the lowest first.
@@ -279,5 +282,16 @@ impl Words for BinaryAnnotation {
         number.write(answer);
         first.write(answer);
         second.write(answer);
+    }
+}
+
+/// The count, the depth, and every place of the chain, 0 where it is unused.
+impl Words for Found {
+    fn write(&self, answer: &mut Answer) {
+        let depth = self.chain.len();
+        self.count.write(answer);
+        depth.write(answer);
+        answer.words.extend(&self.chain);
+        answer.words.extend(vec![0; LIMIT - depth]);
     }
 }

@@ -7,7 +7,7 @@ use variant::Variant;
 
 // The words of an answer; those past `len` are 0.
 pub struct Words {
-    pub at: [u64; 24],
+    pub at: [u64; 72],
     pub len: usize,
 }
 
@@ -15,14 +15,14 @@ impl Words {
     // An answer that has begun with 0.
     pub fn new() -> Words {
         Words {
-            at: [0; 24],
+            at: [0; 72],
             len: 1,
         }
     }
 
     pub fn push(mut self, x: u64) -> Words {
         let n = self.len;
-        if n < 24 {
+        if n < 72 {
             self.at[n] = x;
             self.len = n + 1;
         }

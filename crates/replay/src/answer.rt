@@ -1,5 +1,7 @@
 // Our answers, as the words that the oracle writes: the number of the refusal, or 0 and the values.
 use answer_words::Words;
+use chain::Chain;
+use check_nesting::Checked;
 use common::ParsedI16;
 use common::ParsedI32;
 use common::ParsedI64;
@@ -13,6 +15,8 @@ use records::Decoded;
 use registers::ParsedEntry;
 use symbol_name::Named;
 use variant::ParsedVariant;
+use walk::Finding;
+use walk::Outcome;
 
 fn unsigned(op: u64, s: &[u8], at: usize) -> Words {
     match op {
@@ -129,9 +133,54 @@ fn step(s: &[u8], at: usize) -> Words {
     }
 }
 
+fn check(s: &[u8], start: usize) -> Words {
+    match check_nesting::check(s, start) {
+        Checked::Good(n) => Words::new()
+            .push(n.records as u64)
+            .push(n.bytes as u64)
+            .push(n.passed as u64)
+            .push(n.skipped as u64)
+            .push(n.openers as u64)
+            .push(n.deepest as u64),
+        Checked::Refused(e) => Words::refused(e),
+    }
+}
+
+// The number of records read or links climbed, and the depth and every place of the chain.
+fn found(count: usize, chain: Chain) -> Words {
+    let mut w = Words::new().push(count as u64).push(chain.depth as u64);
+    let mut k: usize = 0;
+    while k < 64 {
+        w = w.push(chain.at[k] as u64);
+        k += 1;
+    }
+    w
+}
+
+fn outcome(out: Outcome, count: usize, chain: Chain) -> Words {
+    match out {
+        Outcome::Answer => found(count, chain),
+        Outcome::Refused(e) => Words::refused(e),
+    }
+}
+
+fn finding(f: Finding) -> Words {
+    let out = f.out;
+    let chain = f.chain;
+    outcome(out, f.read, chain)
+}
+
+fn climb(s: &[u8], i: usize) -> Words {
+    let a = climb::climb(s, i);
+    let out = a.out;
+    let chain = a.chain;
+    outcome(out, a.links, chain)
+}
+
 // An operation that we do not have is answered by a lone 0, which no answer of the oracle is.
-pub fn answer(op: u64, arg: u64, s: &[u8]) -> Words {
+pub fn answer(op: u64, arg: u64, start: u64, s: &[u8]) -> Words {
     let at = arg as usize;
+    let from = start as usize;
     match op {
         1..=4 => unsigned(op, s, at),
         5..=7 => signed(op, s, at),
@@ -146,6 +195,10 @@ pub fn answer(op: u64, arg: u64, s: &[u8]) -> Words {
         34 => name_of(s),
         35 => register(s, at),
         36 => scope(s),
+        40 => check(s, from),
+        41 => finding(walk::walk(s, from, at)),
+        42 => finding(jump::jump(s, from, at)),
+        43 => climb(s, at),
         _ => Words::new(),
     }
 }

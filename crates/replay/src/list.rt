@@ -1,4 +1,4 @@
-// The list: blocks of cases, filled up with zeros, each case an operation, its argument, the bytes it is asked about and the oracle's answer in words.
+// The list: blocks of cases, filled up with zeros, each case an operation, its argument and start, the bytes it is asked about and the oracle's answer in words.
 use answer_words::Words;
 
 // How many cases were replayed and how many of our answers differ; the first that does, counted from 1; whether the list is over.
@@ -72,7 +72,7 @@ fn compare(s: &[u8], at: usize, count: u64, words: Words) -> Compared {
     let mut same = count == words.len as u64;
     let mut next = at;
     let mut i: usize = 0;
-    while i < 24 {
+    while i < 72 {
         if count <= i as u64 {
             return Compared { same, next };
         }
@@ -90,12 +90,13 @@ fn compare(s: &[u8], at: usize, count: u64, words: Words) -> Compared {
 fn replay_case(s: &[u8], at: usize) -> Compared {
     let op = number_at(s, at);
     let arg = number_at(s, op.next);
-    let n = number_at(s, arg.next);
-    let start = n.next;
+    let start = number_at(s, arg.next);
+    let n = number_at(s, start.next);
+    let from = n.next;
     let len = n.value as usize;
-    if common::has_room(s, start, len) {
-        let end = start + len;
-        let words = crate::answer::answer(op.value, arg.value, &s[start..end]);
+    if common::has_room(s, from, len) {
+        let end = from + len;
+        let words = crate::answer::answer(op.value, arg.value, start.value, &s[from..end]);
         let count = number_at(s, end);
         compare(s, count.next, count.value, words)
     } else {

@@ -9,7 +9,7 @@ abbrev Inv-loop : tie.InvT-loop
 Inv-loop s at count words same₀ next₀ i₀ same next i = Unit {0}
 
 abbrev μ-loop : tie.MeasureT-loop
-μ-loop s at count words same₀ next₀ i₀ same next i = 24 - i
+μ-loop s at count words same₀ next₀ i₀ same next i = 72 - i
 
 loop-holds : tie.Need-loop-holds Inv-loop μ-loop
 loop-holds c = search needs
