@@ -13,6 +13,7 @@ use Rattle.iter.specs.Reading.{Rec, Reading, readOf}
 use Rattle.iter.specs.declared.Scan.{Scan}
 use Rattle.iter.specs.declared.Next.{Next}
 use Rattle.iter.specs.declared.Next.the-variants.{End, Refused, Record}
+use Rattle.chain.specs.Chain.{topOf}
 use Rattle.links.specs.Links.{roleOf, linksOf}
 use Rattle.links.specs.declared.Links.{Links}
 use Rattle.links.specs.declared.Links.the-variants.{Unread, Read}
@@ -35,6 +36,10 @@ innerIndex (o ∷ st) = o .index
 abbrev pub innerEnd : List Open → ℕ
 innerEnd [] = 0
 innerEnd (o ∷ st) = o .end
+
+-- the last of so many places, which is the innermost's; 0 if none
+abbrev pub topAt : List ℕ → ℕ → ℕ
+topAt at depth = topOf (record { at = at; depth = depth })
 
 -- Opener: 6 if decode refuses it, 7 at position 0, 8 if its parent field is not the innermost open index (0 if none), 9 if it would be the 65th.
 abbrev pub openOf : Links → ℕ → ℕ → ℕ → Act

@@ -3,10 +3,9 @@
 // The stack of open openers is two chains, of their indexes and of their end fields, changed in place in the loop.
 ghost use mathlib.Core.Path.{_≡_};
 ghost use Prim.Native.Nat.{_+_, _<_, _^_};
-ghost use Rattle.chain.specs.Chain.{topOf};
 ghost use Rattle.constants.specs.declared.Role.the-variants.{Opens};
 ghost use Rattle.links.specs.Links.{roleOf, linksOf};
-ghost use Rattle.check_nesting.specs.Check.{actOf, openOf, countedOf, openedOf, noCounts, endOf, refuses, checkOf, addsUp};
+ghost use Rattle.check_nesting.specs.Check.{topAt, actOf, openOf, countedOf, openedOf, noCounts, endOf, refuses, checkOf, addsUp};
 use chain::Chain;
 use common::Refusal;
 use constants::Role;
@@ -37,27 +36,23 @@ pub enum Act {
     Refused(u8),
 }
 
-// The act at a record, with so many openers open and the innermost's index and end field, 0 if none.
-fn act_at(rec: &[u8], index: usize, depth: usize, inner: u32, end: u32) -> Act
-    ensures { λ r. ⌜ r ≡ actOf (now (rec .entry)) index depth inner end ⌝ }
+// The act at a record, with so many openers open and their indexes and end fields. The innermost is looked at only where the record
+// opens or closes a scope.
+fn act_at(rec: &[u8], index: usize, opens: &[u32; 64], ends: &[u32; 64], depth: usize) -> Act
+    ensures { λ r. ⌜ r ≡ actOf (now (rec .entry)) index depth (topAt (now (opens .entry)) depth) (topAt (now (ends .entry)) depth) ⌝ }
 {
-    let role = links::role_of(rec);
-    match role {
-        Role::Opens => {
-            return open_at(rec, index, depth, inner);
-        }
+    match links::role_of(rec) {
+        Role::Opens => return open_at(rec, index, depth, innermost(opens, depth)),
         Role::Closes => {
             if depth == 0 {
                 return Act::Refused(10);
             }
-            if end as usize != index {
+            if innermost(ends, depth) as usize != index {
                 return Act::Refused(11);
             }
             return Act::Pop;
         }
-        Role::Neither => {
-            return Act::Stay;
-        }
+        Role::Neither => return Act::Stay,
     }
 }
 
@@ -66,9 +61,7 @@ fn open_at(rec: &[u8], index: usize, depth: usize, inner: u32) -> Act
     ensures { λ r. ⌜ r ≡ openOf (linksOf (now (rec .entry))) index depth inner ⌝ }
 {
     match links::links_of(rec) {
-        Links::Unread => {
-            return Act::Refused(6);
-        }
+        Links::Unread => return Act::Refused(6),
         Links::Read { parent, end } => {
             if index == 0 {
                 return Act::Refused(7);
@@ -160,7 +153,7 @@ fn refused(number: u8, position: usize) -> Checked
 
 // The last of the first so many places, 0 if none.
 fn innermost(at: &[u32; 64], depth: usize) -> u32
-    ensures { λ r. ⌜ r ≡ topOf (record { at = now (at .entry); depth = depth }) ⌝ }
+    ensures { λ r. ⌜ r ≡ topAt (now (at .entry)) depth ⌝ }
 {
     if depth == 0 {
         return 0;
@@ -184,9 +177,8 @@ pub fn check(s: &[u8], start: usize) -> Checked
         let c = iter::scan_at(s, at);
         let found = c.next;
         let depth = opens.depth;
-        let inner = innermost(&opens.at, depth);
         match found {
-            Next::End(_) => return at_end(n, c, depth, inner),
+            Next::End(_) => return at_end(n, c, depth, innermost(&opens.at, depth)),
             Next::Refused(e) => return Checked::Refused(e),
             Next::Record {
                 index,
@@ -194,24 +186,22 @@ pub fn check(s: &[u8], start: usize) -> Checked
                 len,
                 next,
             } => {
-                let end = innermost(&ends.at, depth);
                 n = counted(n, c, len);
                 at = next;
-                match act_at(&s[from..next], index, depth, inner, end) {
+                match act_at(&s[from..next], index, &opens.at, &ends.at, depth) {
                     Act::Stay => {}
-                    Act::Push(own) => {
+                    Act::Push(end) => {
                         opens.at[depth] = index as u32;
                         opens.depth = depth + 1;
-                        ends.at[depth] = own;
+                        ends.at[depth] = end;
                         ends.depth = depth + 1;
                         n = opened(n, depth);
                     }
                     Act::Pop => {
-                        let last = depth - 1;
-                        opens.at[last] = 0;
-                        opens.depth = last;
-                        ends.at[last] = 0;
-                        ends.depth = last;
+                        opens.at[depth - 1] = 0;
+                        opens.depth = depth - 1;
+                        ends.at[depth - 1] = 0;
+                        ends.depth = depth - 1;
                     }
                     Act::Refused(number) => return refused(number, index),
                 }

@@ -64,53 +64,38 @@ pub fn u64_at(s: &[u8], at: usize) -> u64
     u32_at(s, at) as u64 + 0x1_0000_0000 * (u32_at(s, at + 4) as u64)
 }
 
-// The two's complement reading of 16 bits; 32 and 64 below likewise.
-fn i16_of(x: u16) -> i16
-    ensures { λ r. ⌜ r ≡ signed 16 x ⌝ }
+// An `i` function reads in two's complement.
+pub fn i16_at(s: &[u8], at: usize) -> i16
+    requires { ⌜ at + 2 ≤ length (now s) ⌝ }
+    ensures { λ r. ⌜ r ≡ signed 16 (le 2 (now (s .entry)) at) ⌝ }
 {
+    let x = u16_at(s, at);
     if x < 0x8000 {
         return x as i16;
     }
     !((0xffff - x) as i16)
 }
 
-fn i32_of(x: u32) -> i32
-    ensures { λ r. ⌜ r ≡ signed 32 x ⌝ }
+pub fn i32_at(s: &[u8], at: usize) -> i32
+    requires { ⌜ at + 4 ≤ length (now s) ⌝ }
+    ensures { λ r. ⌜ r ≡ signed 32 (le 4 (now (s .entry)) at) ⌝ }
 {
+    let x = u32_at(s, at);
     if x < 0x8000_0000 {
         return x as i32;
     }
     !((0xffff_ffff - x) as i32)
 }
 
-fn i64_of(x: u64) -> i64
-    ensures { λ r. ⌜ r ≡ signed 64 x ⌝ }
-{
-    if x < 0x8000_0000_0000_0000 {
-        return x as i64;
-    }
-    !((0xffff_ffff_ffff_ffff - x) as i64)
-}
-
-pub fn i16_at(s: &[u8], at: usize) -> i16
-    requires { ⌜ at + 2 ≤ length (now s) ⌝ }
-    ensures { λ r. ⌜ r ≡ signed 16 (le 2 (now (s .entry)) at) ⌝ }
-{
-    i16_of(u16_at(s, at))
-}
-
-pub fn i32_at(s: &[u8], at: usize) -> i32
-    requires { ⌜ at + 4 ≤ length (now s) ⌝ }
-    ensures { λ r. ⌜ r ≡ signed 32 (le 4 (now (s .entry)) at) ⌝ }
-{
-    i32_of(u32_at(s, at))
-}
-
 pub fn i64_at(s: &[u8], at: usize) -> i64
     requires { ⌜ at + 8 ≤ length (now s) ⌝ }
     ensures { λ r. ⌜ r ≡ signed 64 (le 8 (now (s .entry)) at) ⌝ }
 {
-    i64_of(u64_at(s, at))
+    let x = u64_at(s, at);
+    if x < 0x8000_0000_0000_0000 {
+        return x as i64;
+    }
+    !((0xffff_ffff_ffff_ffff - x) as i64)
 }
 
 // What reading a number answers: the number and the position after it, or the refusal.
@@ -153,68 +138,61 @@ pub fn parse_u8(s: &[u8], at: usize) -> ParsedU8
     ensures { λ r. ⌜ u8Of r ≡ uint 1 (now (s .entry)) at ⌝ }
 {
     if has_room(s, at, 1) {
-        ParsedU8::Value(u8_at(s, at), at + 1)
-    } else {
-        ParsedU8::Refused(Refusal::UNEXPECTED_EOF)
+        return ParsedU8::Value(u8_at(s, at), at + 1);
     }
+    ParsedU8::Refused(Refusal::UNEXPECTED_EOF)
 }
 
 pub fn parse_u16(s: &[u8], at: usize) -> ParsedU16
     ensures { λ r. ⌜ u16Of r ≡ uint 2 (now (s .entry)) at ⌝ }
 {
     if has_room(s, at, 2) {
-        ParsedU16::Value(u16_at(s, at), at + 2)
-    } else {
-        ParsedU16::Refused(Refusal::UNEXPECTED_EOF)
+        return ParsedU16::Value(u16_at(s, at), at + 2);
     }
+    ParsedU16::Refused(Refusal::UNEXPECTED_EOF)
 }
 
 pub fn parse_u32(s: &[u8], at: usize) -> ParsedU32
     ensures { λ r. ⌜ u32Of r ≡ uint 4 (now (s .entry)) at ⌝ }
 {
     if has_room(s, at, 4) {
-        ParsedU32::Value(u32_at(s, at), at + 4)
-    } else {
-        ParsedU32::Refused(Refusal::UNEXPECTED_EOF)
+        return ParsedU32::Value(u32_at(s, at), at + 4);
     }
+    ParsedU32::Refused(Refusal::UNEXPECTED_EOF)
 }
 
 pub fn parse_u64(s: &[u8], at: usize) -> ParsedU64
     ensures { λ r. ⌜ u64Of r ≡ uint 8 (now (s .entry)) at ⌝ }
 {
     if has_room(s, at, 8) {
-        ParsedU64::Value(u64_at(s, at), at + 8)
-    } else {
-        ParsedU64::Refused(Refusal::UNEXPECTED_EOF)
+        return ParsedU64::Value(u64_at(s, at), at + 8);
     }
+    ParsedU64::Refused(Refusal::UNEXPECTED_EOF)
 }
 
 pub fn parse_i16(s: &[u8], at: usize) -> ParsedI16
     ensures { λ r. ⌜ i16Of r ≡ sint 2 (now (s .entry)) at ⌝ }
 {
     if has_room(s, at, 2) {
-        ParsedI16::Value(i16_at(s, at), at + 2)
-    } else {
-        ParsedI16::Refused(Refusal::UNEXPECTED_EOF)
+        return ParsedI16::Value(i16_at(s, at), at + 2);
     }
+    ParsedI16::Refused(Refusal::UNEXPECTED_EOF)
 }
 
 pub fn parse_i32(s: &[u8], at: usize) -> ParsedI32
     ensures { λ r. ⌜ i32Of r ≡ sint 4 (now (s .entry)) at ⌝ }
 {
     if has_room(s, at, 4) {
-        ParsedI32::Value(i32_at(s, at), at + 4)
-    } else {
-        ParsedI32::Refused(Refusal::UNEXPECTED_EOF)
+        return ParsedI32::Value(i32_at(s, at), at + 4);
     }
+    ParsedI32::Refused(Refusal::UNEXPECTED_EOF)
 }
 
 pub fn parse_i64(s: &[u8], at: usize) -> ParsedI64
     ensures { λ r. ⌜ i64Of r ≡ sint 8 (now (s .entry)) at ⌝ }
 {
     if has_room(s, at, 8) {
-        ParsedI64::Value(i64_at(s, at), at + 8)
-    } else {
-        ParsedI64::Refused(Refusal::UNEXPECTED_EOF)
+        return ParsedI64::Value(i64_at(s, at), at + 8);
     }
+    ParsedI64::Refused(Refusal::UNEXPECTED_EOF)
 }

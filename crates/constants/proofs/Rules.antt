@@ -7,7 +7,7 @@ use mathlib.Core.List.{List, [], _∷_}
 use native.Mathlib.Nat.{add-zero, add-suc, suc-add, le-of-suc-le-suc, not-suc-le-zero}
 use native.Mathlib.Omega.{arith}
 use borrow.Author.Tests.{ne-eqb}
-use lib.ListN.{getD}
+use lib.ListN.{getD, replicate}
 use Rattle.constants.specs.Processor.{among}
 
 -- the values of f at the n numbers from i on
@@ -26,6 +26,16 @@ entry f i n k l h =
     let into : k - i < n = omega arith in
     let back : i + (k - i) ≡ k = omega arith in
     from f n i (k - i) into ∙ ap f back
+
+none : (N k : ℕ) → _≡_ {A = ℕ} (getD (replicate N 0) k 0) 0
+none zero k = refl
+none (suc N) zero = refl
+none (suc N) (suc k) = none N k
+
+-- what is 0 at each number below N, as antt computes, is so at n
+pub zero-below : (f : ℕ → ℕ) (N n : ℕ) → tabulate f 0 N ≡ replicate N 0 → n < N → f n ≡ 0
+zero-below f N n e h =
+    sym (entry f 0 N n (omega arith) (omega arith)) ∙ ap (λ (l : List ℕ). getD l (n - 0) 0) e ∙ none N (n - 0)
 
 -- what is told where a number m was tested for, and where not
 abbrev pub Tested : Bool → Type 0 → Type 0 → Type 0

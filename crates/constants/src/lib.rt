@@ -96,52 +96,52 @@ pub enum Role {
     Closes,
 }
 
-// The classes and the roles by their numbers.
-const CLASSES: [Class; 28] = [
-    Class::Unknown,
-    Class::ScopeEnd,
-    Class::ObjName,
-    Class::RegisterVariable,
-    Class::Constant,
-    Class::UserDefinedType,
-    Class::MultiRegisterVariable,
-    Class::Data,
-    Class::Public,
-    Class::Procedure,
-    Class::ThreadStorage,
-    Class::CompileFlags,
-    Class::UsingNamespace,
-    Class::ProcedureReference,
-    Class::DataReference,
-    Class::AnnotationReference,
-    Class::Trampoline,
-    Class::Export,
-    Class::Local,
-    Class::BuildInfo,
-    Class::InlineSite,
-    Class::InlineSiteEnd,
-    Class::ProcedureEnd,
-    Class::Label,
-    Class::Block,
-    Class::RegisterRelative,
-    Class::Thunk,
-    Class::SeparatedCode,
-];
-
-const ROLES: [Role; 3] = [Role::Neither, Role::Opens, Role::Closes];
-
 // What records of this kind are decoded as.
 pub fn class_of(kind: u16) -> Class
     ensures { λ r. ⌜ r ≡ classOf kind ⌝ }
 {
-    CLASSES[(code_of(kind) / 4) as usize]
+    match code_of(kind) / 4 {
+        0 => Class::Unknown,
+        1 => Class::ScopeEnd,
+        2 => Class::ObjName,
+        3 => Class::RegisterVariable,
+        4 => Class::Constant,
+        5 => Class::UserDefinedType,
+        6 => Class::MultiRegisterVariable,
+        7 => Class::Data,
+        8 => Class::Public,
+        9 => Class::Procedure,
+        10 => Class::ThreadStorage,
+        11 => Class::CompileFlags,
+        12 => Class::UsingNamespace,
+        13 => Class::ProcedureReference,
+        14 => Class::DataReference,
+        15 => Class::AnnotationReference,
+        16 => Class::Trampoline,
+        17 => Class::Export,
+        18 => Class::Local,
+        19 => Class::BuildInfo,
+        20 => Class::InlineSite,
+        21 => Class::InlineSiteEnd,
+        22 => Class::ProcedureEnd,
+        23 => Class::Label,
+        24 => Class::Block,
+        25 => Class::RegisterRelative,
+        26 => Class::Thunk,
+        27 => Class::SeparatedCode,
+        _ => Class::Unknown,
+    }
 }
 
 // Whether records of this kind open or close a scope.
 pub fn role_of(kind: u16) -> Role
     ensures { λ r. ⌜ r ≡ roleOf kind ⌝ }
 {
-    ROLES[(code_of(kind) % 4) as usize]
+    match code_of(kind) % 4 {
+        OPENS => Role::Opens,
+        CLOSES => Role::Closes,
+        _ => Role::Neither,
+    }
 }
 
 pub fn starts_scope(kind: u16) -> bool
@@ -175,34 +175,34 @@ pub fn class_number(c: Class) -> u8
     ensures { λ r. ⌜ r ≡ classNumber c ⌝ }
 {
     match c {
-        Class::Unknown => 0,
-        Class::ScopeEnd => 1,
-        Class::ObjName => 2,
-        Class::RegisterVariable => 3,
-        Class::Constant => 4,
-        Class::UserDefinedType => 5,
-        Class::MultiRegisterVariable => 6,
-        Class::Data => 7,
-        Class::Public => 8,
-        Class::Procedure => 9,
-        Class::ThreadStorage => 10,
-        Class::CompileFlags => 11,
-        Class::UsingNamespace => 12,
-        Class::ProcedureReference => 13,
-        Class::DataReference => 14,
-        Class::AnnotationReference => 15,
-        Class::Trampoline => 16,
-        Class::Export => 17,
-        Class::Local => 18,
-        Class::BuildInfo => 19,
-        Class::InlineSite => 20,
-        Class::InlineSiteEnd => 21,
-        Class::ProcedureEnd => 22,
-        Class::Label => 23,
-        Class::Block => 24,
-        Class::RegisterRelative => 25,
-        Class::Thunk => 26,
-        Class::SeparatedCode => 27,
+        Class::Unknown => return 0,
+        Class::ScopeEnd => return 1,
+        Class::ObjName => return 2,
+        Class::RegisterVariable => return 3,
+        Class::Constant => return 4,
+        Class::UserDefinedType => return 5,
+        Class::MultiRegisterVariable => return 6,
+        Class::Data => return 7,
+        Class::Public => return 8,
+        Class::Procedure => return 9,
+        Class::ThreadStorage => return 10,
+        Class::CompileFlags => return 11,
+        Class::UsingNamespace => return 12,
+        Class::ProcedureReference => return 13,
+        Class::DataReference => return 14,
+        Class::AnnotationReference => return 15,
+        Class::Trampoline => return 16,
+        Class::Export => return 17,
+        Class::Local => return 18,
+        Class::BuildInfo => return 19,
+        Class::InlineSite => return 20,
+        Class::InlineSiteEnd => return 21,
+        Class::ProcedureEnd => return 22,
+        Class::Label => return 23,
+        Class::Block => return 24,
+        Class::RegisterRelative => return 25,
+        Class::Thunk => return 26,
+        Class::SeparatedCode => return 27,
     }
 }
 

@@ -1,427 +1,200 @@
 // The tables of kinds and processors, the rule of each proved once over all of its entries.
 ghost use mathlib.Core.Path.{_≡_};
 ghost use Prim.Native.Nat.{_<_};
-ghost use Rattle.constants.specs.Table.{codeOf};
+ghost use Rattle.constants.specs.Table.{codeOf, rowOf};
 
 // A kind's class and role in one byte: four times the class's number, and the role's.
-const UNKNOWN: u8 = 0;
+const UNKNOWN: u64 = 0;
 
-const SCOPE_END: u8 = 4;
+const SCOPE_END: u64 = 4;
 
-const OBJ_NAME: u8 = 8;
+const OBJ_NAME: u64 = 8;
 
-const REGISTER_VARIABLE: u8 = 12;
+const REGISTER_VARIABLE: u64 = 12;
 
-const CONSTANT: u8 = 16;
+const CONSTANT: u64 = 16;
 
-const USER_DEFINED_TYPE: u8 = 20;
+const USER_DEFINED_TYPE: u64 = 20;
 
-const MULTI_REGISTER_VARIABLE: u8 = 24;
+const MULTI_REGISTER_VARIABLE: u64 = 24;
 
-const DATA: u8 = 28;
+const DATA: u64 = 28;
 
-const PUBLIC: u8 = 32;
+const PUBLIC: u64 = 32;
 
-const PROCEDURE: u8 = 36;
+const PROCEDURE: u64 = 36;
 
-const THREAD_STORAGE: u8 = 40;
+const THREAD_STORAGE: u64 = 40;
 
-const COMPILE_FLAGS: u8 = 44;
+const COMPILE_FLAGS: u64 = 44;
 
-const USING_NAMESPACE: u8 = 48;
+const USING_NAMESPACE: u64 = 48;
 
-const PROCEDURE_REFERENCE: u8 = 52;
+const PROCEDURE_REFERENCE: u64 = 52;
 
-const DATA_REFERENCE: u8 = 56;
+const DATA_REFERENCE: u64 = 56;
 
-const ANNOTATION_REFERENCE: u8 = 60;
+const ANNOTATION_REFERENCE: u64 = 60;
 
-const TRAMPOLINE: u8 = 64;
+const TRAMPOLINE: u64 = 64;
 
-const EXPORT: u8 = 68;
+const EXPORT: u64 = 68;
 
-const LOCAL: u8 = 72;
+const LOCAL: u64 = 72;
 
-const BUILD_INFO: u8 = 76;
+const BUILD_INFO: u64 = 76;
 
-const INLINE_SITE: u8 = 80;
+const INLINE_SITE: u64 = 80;
 
-const INLINE_SITE_END: u8 = 84;
+const INLINE_SITE_END: u64 = 84;
 
-const PROCEDURE_END: u8 = 88;
+const PROCEDURE_END: u64 = 88;
 
-const LABEL: u8 = 92;
+const LABEL: u64 = 92;
 
-const BLOCK: u8 = 96;
+const BLOCK: u64 = 96;
 
-const REGISTER_RELATIVE: u8 = 100;
+const REGISTER_RELATIVE: u64 = 100;
 
-const THUNK: u8 = 104;
+const THUNK: u64 = 104;
 
-const SEPARATED_CODE: u8 = 108;
+const SEPARATED_CODE: u64 = 108;
 
-pub const OPENS: u8 = 1;
+pub const OPENS: u64 = 1;
 
-pub const CLOSES: u8 = 2;
+pub const CLOSES: u64 = 2;
 
-// The kinds 0x1000 to 0x115F.
-const KINDS: [u8; 352] = [
-    UNKNOWN,
-    REGISTER_VARIABLE, // 0x1001 S_REGISTER_ST
-    CONSTANT, // 0x1002 S_CONSTANT_ST
-    USER_DEFINED_TYPE, // 0x1003 S_UDT_ST
-    USER_DEFINED_TYPE, // 0x1004 S_COBOLUDT_ST
-    MULTI_REGISTER_VARIABLE, // 0x1005 S_MANYREG_ST
-    UNKNOWN,
-    DATA, // 0x1007 S_LDATA32_ST
-    DATA, // 0x1008 S_GDATA32_ST
-    PUBLIC, // 0x1009 S_PUB32_ST
-    PROCEDURE + OPENS, // 0x100a S_LPROC32_ST
-    PROCEDURE + OPENS, // 0x100b S_GPROC32_ST
-    UNKNOWN,
-    UNKNOWN,
-    THREAD_STORAGE, // 0x100e S_LTHREAD32_ST
-    THREAD_STORAGE, // 0x100f S_GTHREAD32_ST
-    UNKNOWN + OPENS, // 0x1010 S_LPROCMIPS_ST
-    UNKNOWN + OPENS, // 0x1011 S_GPROCMIPS_ST
-    UNKNOWN,
-    COMPILE_FLAGS, // 0x1013 S_COMPILE2_ST
-    MULTI_REGISTER_VARIABLE, // 0x1014 S_MANYREG2_ST
-    UNKNOWN + OPENS, // 0x1015 S_LPROCIA64_ST
-    UNKNOWN + OPENS, // 0x1016 S_GPROCIA64_ST
-    UNKNOWN,
-    UNKNOWN,
-    UNKNOWN,
-    UNKNOWN + OPENS, // 0x101a S_GMANPROC_ST
-    UNKNOWN + OPENS, // 0x101b S_LMANPROC_ST
-    UNKNOWN,
-    UNKNOWN,
-    UNKNOWN,
-    UNKNOWN,
-    DATA, // 0x1020 S_LMANDATA_ST
-    DATA, // 0x1021 S_GMANDATA_ST
-    UNKNOWN,
-    UNKNOWN,
-    UNKNOWN,
-    UNKNOWN,
-    UNKNOWN,
-    UNKNOWN,
-    UNKNOWN,
-    USING_NAMESPACE, // 0x1029 S_UNAMESPACE_ST
-    UNKNOWN,
-    UNKNOWN,
-    UNKNOWN,
-    UNKNOWN,
-    UNKNOWN,
-    UNKNOWN,
-    UNKNOWN,
-    UNKNOWN,
-    UNKNOWN,
-    UNKNOWN,
-    UNKNOWN,
-    UNKNOWN,
-    UNKNOWN,
-    UNKNOWN,
-    UNKNOWN,
-    UNKNOWN,
-    UNKNOWN,
-    UNKNOWN,
-    UNKNOWN,
-    UNKNOWN,
-    UNKNOWN,
-    UNKNOWN,
-    UNKNOWN,
-    UNKNOWN,
-    UNKNOWN,
-    UNKNOWN,
-    UNKNOWN,
-    UNKNOWN,
-    UNKNOWN,
-    UNKNOWN,
-    UNKNOWN,
-    UNKNOWN,
-    UNKNOWN,
-    UNKNOWN,
-    UNKNOWN,
-    UNKNOWN,
-    UNKNOWN,
-    UNKNOWN,
-    UNKNOWN,
-    UNKNOWN,
-    UNKNOWN,
-    UNKNOWN,
-    UNKNOWN,
-    UNKNOWN,
-    UNKNOWN,
-    UNKNOWN,
-    UNKNOWN,
-    UNKNOWN,
-    UNKNOWN,
-    UNKNOWN,
-    UNKNOWN,
-    UNKNOWN,
-    UNKNOWN,
-    UNKNOWN,
-    UNKNOWN,
-    UNKNOWN,
-    UNKNOWN,
-    UNKNOWN,
-    UNKNOWN,
-    UNKNOWN,
-    UNKNOWN,
-    UNKNOWN,
-    UNKNOWN,
-    UNKNOWN,
-    UNKNOWN,
-    UNKNOWN,
-    UNKNOWN,
-    UNKNOWN,
-    UNKNOWN,
-    UNKNOWN,
-    UNKNOWN,
-    UNKNOWN,
-    UNKNOWN,
-    UNKNOWN,
-    UNKNOWN,
-    UNKNOWN,
-    UNKNOWN,
-    UNKNOWN,
-    UNKNOWN,
-    UNKNOWN,
-    UNKNOWN,
-    UNKNOWN,
-    UNKNOWN,
-    UNKNOWN,
-    UNKNOWN,
-    UNKNOWN,
-    UNKNOWN,
-    UNKNOWN,
-    UNKNOWN,
-    UNKNOWN,
-    UNKNOWN,
-    UNKNOWN,
-    UNKNOWN,
-    UNKNOWN,
-    UNKNOWN,
-    UNKNOWN,
-    UNKNOWN,
-    UNKNOWN,
-    UNKNOWN,
-    UNKNOWN,
-    UNKNOWN,
-    UNKNOWN,
-    UNKNOWN,
-    UNKNOWN,
-    UNKNOWN,
-    UNKNOWN,
-    UNKNOWN,
-    UNKNOWN,
-    UNKNOWN,
-    UNKNOWN,
-    UNKNOWN,
-    UNKNOWN,
-    UNKNOWN,
-    UNKNOWN,
-    UNKNOWN,
-    UNKNOWN,
-    UNKNOWN,
-    UNKNOWN,
-    UNKNOWN,
-    UNKNOWN,
-    UNKNOWN,
-    UNKNOWN,
-    UNKNOWN,
-    UNKNOWN,
-    UNKNOWN,
-    UNKNOWN,
-    UNKNOWN,
-    UNKNOWN,
-    UNKNOWN,
-    UNKNOWN,
-    UNKNOWN,
-    UNKNOWN,
-    UNKNOWN,
-    UNKNOWN,
-    UNKNOWN,
-    UNKNOWN,
-    UNKNOWN,
-    UNKNOWN,
-    UNKNOWN,
-    UNKNOWN,
-    UNKNOWN,
-    UNKNOWN,
-    UNKNOWN,
-    UNKNOWN,
-    UNKNOWN,
-    UNKNOWN,
-    UNKNOWN,
-    UNKNOWN,
-    UNKNOWN,
-    UNKNOWN,
-    UNKNOWN,
-    UNKNOWN,
-    UNKNOWN,
-    UNKNOWN,
-    UNKNOWN,
-    UNKNOWN,
-    UNKNOWN,
-    UNKNOWN,
-    UNKNOWN,
-    UNKNOWN,
-    UNKNOWN,
-    UNKNOWN,
-    UNKNOWN,
-    UNKNOWN,
-    UNKNOWN,
-    UNKNOWN,
-    UNKNOWN,
-    UNKNOWN,
-    UNKNOWN,
-    UNKNOWN,
-    UNKNOWN,
-    UNKNOWN,
-    UNKNOWN,
-    UNKNOWN,
-    UNKNOWN,
-    UNKNOWN,
-    UNKNOWN,
-    UNKNOWN,
-    UNKNOWN,
-    UNKNOWN,
-    UNKNOWN,
-    UNKNOWN,
-    UNKNOWN,
-    UNKNOWN,
-    UNKNOWN,
-    UNKNOWN,
-    UNKNOWN,
-    UNKNOWN,
-    UNKNOWN,
-    UNKNOWN,
-    UNKNOWN,
-    UNKNOWN,
-    UNKNOWN,
-    UNKNOWN,
-    UNKNOWN,
-    UNKNOWN,
-    UNKNOWN,
-    UNKNOWN,
-    UNKNOWN,
-    UNKNOWN,
-    UNKNOWN,
-    UNKNOWN,
-    UNKNOWN,
-    UNKNOWN,
-    UNKNOWN,
-    UNKNOWN,
-    UNKNOWN,
-    UNKNOWN,
-    UNKNOWN,
-    UNKNOWN,
-    UNKNOWN,
-    UNKNOWN,
-    UNKNOWN,
-    UNKNOWN,
-    UNKNOWN,
-    OBJ_NAME, // 0x1101 S_OBJNAME
-    THUNK + OPENS, // 0x1102 S_THUNK32
-    BLOCK + OPENS, // 0x1103 S_BLOCK32
-    UNKNOWN + OPENS, // 0x1104 S_WITH32
-    LABEL, // 0x1105 S_LABEL32
-    REGISTER_VARIABLE, // 0x1106 S_REGISTER
-    CONSTANT, // 0x1107 S_CONSTANT
-    USER_DEFINED_TYPE, // 0x1108 S_UDT
-    USER_DEFINED_TYPE, // 0x1109 S_COBOLUDT
-    MULTI_REGISTER_VARIABLE, // 0x110a S_MANYREG
-    UNKNOWN,
-    DATA, // 0x110c S_LDATA32
-    DATA, // 0x110d S_GDATA32
-    PUBLIC, // 0x110e S_PUB32
-    PROCEDURE + OPENS, // 0x110f S_LPROC32
-    PROCEDURE + OPENS, // 0x1110 S_GPROC32
-    REGISTER_RELATIVE, // 0x1111 S_REGREL32
-    THREAD_STORAGE, // 0x1112 S_LTHREAD32
-    THREAD_STORAGE, // 0x1113 S_GTHREAD32
-    UNKNOWN + OPENS, // 0x1114 S_LPROCMIPS
-    UNKNOWN + OPENS, // 0x1115 S_GPROCMIPS
-    COMPILE_FLAGS, // 0x1116 S_COMPILE2
-    MULTI_REGISTER_VARIABLE, // 0x1117 S_MANYREG2
-    UNKNOWN + OPENS, // 0x1118 S_LPROCIA64
-    UNKNOWN + OPENS, // 0x1119 S_GPROCIA64
-    UNKNOWN,
-    UNKNOWN,
-    DATA, // 0x111c S_LMANDATA
-    DATA, // 0x111d S_GMANDATA
-    UNKNOWN,
-    UNKNOWN,
-    UNKNOWN,
-    UNKNOWN,
-    UNKNOWN,
-    UNKNOWN,
-    USING_NAMESPACE, // 0x1124 S_UNAMESPACE
-    PROCEDURE_REFERENCE, // 0x1125 S_PROCREF
-    DATA_REFERENCE, // 0x1126 S_DATAREF
-    PROCEDURE_REFERENCE, // 0x1127 S_LPROCREF
-    ANNOTATION_REFERENCE, // 0x1128 S_ANNOTATIONREF
-    UNKNOWN,
-    UNKNOWN + OPENS, // 0x112a S_GMANPROC
-    UNKNOWN + OPENS, // 0x112b S_LMANPROC
-    TRAMPOLINE, // 0x112c S_TRAMPOLINE
-    CONSTANT, // 0x112d S_MANCONSTANT
-    UNKNOWN,
-    UNKNOWN,
-    UNKNOWN,
-    UNKNOWN,
-    SEPARATED_CODE + OPENS, // 0x1132 S_SEPCODE
-    UNKNOWN,
-    UNKNOWN,
-    UNKNOWN,
-    UNKNOWN,
-    UNKNOWN,
-    EXPORT, // 0x1138 S_EXPORT
-    UNKNOWN,
-    UNKNOWN,
-    UNKNOWN,
-    COMPILE_FLAGS, // 0x113c S_COMPILE3
-    UNKNOWN,
-    LOCAL, // 0x113e S_LOCAL
-    UNKNOWN,
-    UNKNOWN,
-    UNKNOWN,
-    UNKNOWN,
-    UNKNOWN,
-    UNKNOWN,
-    UNKNOWN,
-    PROCEDURE, // 0x1146 S_LPROC32_ID
-    PROCEDURE + OPENS, // 0x1147 S_GPROC32_ID
-    UNKNOWN,
-    UNKNOWN + OPENS, // 0x1149 S_GPROCMIPS_ID
-    UNKNOWN,
-    UNKNOWN + OPENS, // 0x114b S_GPROCIA64_ID
-    BUILD_INFO, // 0x114c S_BUILDINFO
-    INLINE_SITE + OPENS, // 0x114d S_INLINESITE
-    INLINE_SITE_END + CLOSES, // 0x114e S_INLINESITE_END
-    PROCEDURE_END + CLOSES, // 0x114f S_PROC_ID_END
-    UNKNOWN,
-    UNKNOWN,
-    UNKNOWN,
-    UNKNOWN,
-    UNKNOWN,
-    PROCEDURE + OPENS, // 0x1155 S_LPROC32_DPC
-    PROCEDURE + OPENS, // 0x1156 S_LPROC32_DPC_ID
-    UNKNOWN,
-    UNKNOWN,
-    UNKNOWN,
-    UNKNOWN,
-    UNKNOWN,
-    UNKNOWN,
-    INLINE_SITE + OPENS, // 0x115d S_INLINESITE2
-    UNKNOWN,
-    UNKNOWN,
-];
+// The table of the kinds 0x1000 to 0x115F, eight entries to a row, the first in the lowest byte. The rows that are missing hold none
+// but UNKNOWN. A constant array would be written to the stack at every call; the arms of a `match` are read where they lie.
+// 0x1000: -, S_REGISTER_ST, S_CONSTANT_ST, S_UDT_ST, S_COBOLUDT_ST, S_MANYREG_ST, -, S_LDATA32_ST
+const ROW_0: u64 = (REGISTER_VARIABLE << 8)
+    + (CONSTANT << 16)
+    + (USER_DEFINED_TYPE << 24)
+    + (USER_DEFINED_TYPE << 32)
+    + (MULTI_REGISTER_VARIABLE << 40)
+    + (DATA << 56);
+
+// 0x1008: S_GDATA32_ST, S_PUB32_ST, S_LPROC32_ST, S_GPROC32_ST, -, -, S_LTHREAD32_ST, S_GTHREAD32_ST
+const ROW_1: u64 = DATA
+    + (PUBLIC << 8)
+    + ((PROCEDURE + OPENS) << 16)
+    + ((PROCEDURE + OPENS) << 24)
+    + (THREAD_STORAGE << 48)
+    + (THREAD_STORAGE << 56);
+
+// 0x1010: S_LPROCMIPS_ST, S_GPROCMIPS_ST, -, S_COMPILE2_ST, S_MANYREG2_ST, S_LPROCIA64_ST, S_GPROCIA64_ST, -
+const ROW_2: u64 = OPENS
+    + (OPENS << 8)
+    + (COMPILE_FLAGS << 24)
+    + (MULTI_REGISTER_VARIABLE << 32)
+    + (OPENS << 40)
+    + (OPENS << 48);
+
+// 0x1018: -, -, S_GMANPROC_ST, S_LMANPROC_ST, -, -, -, -
+const ROW_3: u64 = (OPENS << 16) + (OPENS << 24);
+
+// 0x1020: S_LMANDATA_ST, S_GMANDATA_ST, -, -, -, -, -, -
+const ROW_4: u64 = DATA + (DATA << 8);
+
+// 0x1028: -, S_UNAMESPACE_ST, -, -, -, -, -, -
+const ROW_5: u64 = (USING_NAMESPACE << 8);
+
+// 0x1100: -, S_OBJNAME, S_THUNK32, S_BLOCK32, S_WITH32, S_LABEL32, S_REGISTER, S_CONSTANT
+const ROW_32: u64 = (OBJ_NAME << 8)
+    + ((THUNK + OPENS) << 16)
+    + ((BLOCK + OPENS) << 24)
+    + (OPENS << 32)
+    + (LABEL << 40)
+    + (REGISTER_VARIABLE << 48)
+    + (CONSTANT << 56);
+
+// 0x1108: S_UDT, S_COBOLUDT, S_MANYREG, -, S_LDATA32, S_GDATA32, S_PUB32, S_LPROC32
+const ROW_33: u64 = USER_DEFINED_TYPE
+    + (USER_DEFINED_TYPE << 8)
+    + (MULTI_REGISTER_VARIABLE << 16)
+    + (DATA << 32)
+    + (DATA << 40)
+    + (PUBLIC << 48)
+    + ((PROCEDURE + OPENS) << 56);
+
+// 0x1110: S_GPROC32, S_REGREL32, S_LTHREAD32, S_GTHREAD32, S_LPROCMIPS, S_GPROCMIPS, S_COMPILE2, S_MANYREG2
+const ROW_34: u64 = PROCEDURE
+    + OPENS
+    + (REGISTER_RELATIVE << 8)
+    + (THREAD_STORAGE << 16)
+    + (THREAD_STORAGE << 24)
+    + (OPENS << 32)
+    + (OPENS << 40)
+    + (COMPILE_FLAGS << 48)
+    + (MULTI_REGISTER_VARIABLE << 56);
+
+// 0x1118: S_LPROCIA64, S_GPROCIA64, -, -, S_LMANDATA, S_GMANDATA, -, -
+const ROW_35: u64 = OPENS + (OPENS << 8) + (DATA << 32) + (DATA << 40);
+
+// 0x1120: -, -, -, -, S_UNAMESPACE, S_PROCREF, S_DATAREF, S_LPROCREF
+const ROW_36: u64 = (USING_NAMESPACE << 32)
+    + (PROCEDURE_REFERENCE << 40)
+    + (DATA_REFERENCE << 48)
+    + (PROCEDURE_REFERENCE << 56);
+
+// 0x1128: S_ANNOTATIONREF, -, S_GMANPROC, S_LMANPROC, S_TRAMPOLINE, S_MANCONSTANT, -, -
+const ROW_37: u64 = ANNOTATION_REFERENCE
+    + (OPENS << 16)
+    + (OPENS << 24)
+    + (TRAMPOLINE << 32)
+    + (CONSTANT << 40);
+
+// 0x1130: -, -, S_SEPCODE, -, -, -, -, -
+const ROW_38: u64 = ((SEPARATED_CODE + OPENS) << 16);
+
+// 0x1138: S_EXPORT, -, -, -, S_COMPILE3, -, S_LOCAL, -
+const ROW_39: u64 = EXPORT + (COMPILE_FLAGS << 32) + (LOCAL << 48);
+
+// 0x1140: -, -, -, -, -, -, S_LPROC32_ID, S_GPROC32_ID
+const ROW_40: u64 = (PROCEDURE << 48) + ((PROCEDURE + OPENS) << 56);
+
+// 0x1148: -, S_GPROCMIPS_ID, -, S_GPROCIA64_ID, S_BUILDINFO, S_INLINESITE, S_INLINESITE_END, S_PROC_ID_END
+const ROW_41: u64 = (OPENS << 8)
+    + (OPENS << 24)
+    + (BUILD_INFO << 32)
+    + ((INLINE_SITE + OPENS) << 40)
+    + ((INLINE_SITE_END + CLOSES) << 48)
+    + ((PROCEDURE_END + CLOSES) << 56);
+
+// 0x1150: -, -, -, -, -, S_LPROC32_DPC, S_LPROC32_DPC_ID, -
+const ROW_42: u64 = ((PROCEDURE + OPENS) << 40) + ((PROCEDURE + OPENS) << 48);
+
+// 0x1158: -, -, -, -, -, S_INLINESITE2, -, -
+const ROW_43: u64 = ((INLINE_SITE + OPENS) << 40);
+
+fn row(n: u16) -> u64
+    ensures { λ r. ⌜ r ≡ rowOf n ⌝ }
+{
+    match n {
+        0 => ROW_0,
+        1 => ROW_1,
+        2 => ROW_2,
+        3 => ROW_3,
+        4 => ROW_4,
+        5 => ROW_5,
+        32 => ROW_32,
+        33 => ROW_33,
+        34 => ROW_34,
+        35 => ROW_35,
+        36 => ROW_36,
+        37 => ROW_37,
+        38 => ROW_38,
+        39 => ROW_39,
+        40 => ROW_40,
+        41 => ROW_41,
+        42 => ROW_42,
+        43 => ROW_43,
+        _ => 0,
+    }
+}
 
 // The code of a kind below 0x1000. These are too far apart for a table.
-fn low_code(kind: u16) -> u8
+fn low_code(kind: u16) -> u64
     requires { ⌜ kind < 0x1000 ⌝ }
     ensures { λ r. ⌜ r ≡ codeOf kind ⌝ }
 {
@@ -445,14 +218,15 @@ fn low_code(kind: u16) -> u8
 }
 
 // The class and the role of a kind, packed as in the table.
-pub fn code_of(kind: u16) -> u8
+pub fn code_of(kind: u16) -> u64
     ensures { λ r. ⌜ r ≡ codeOf kind ⌝ }
 {
     if kind < 0x1000 {
         return low_code(kind);
     }
     if kind < 0x1160 {
-        return KINDS[(kind - 0x1000) as usize];
+        let k = kind - 0x1000;
+        return (row(k / 8) >> ((k % 8) as u32 * 8)) % 0x100;
     }
     UNKNOWN
 }

@@ -1,6 +1,7 @@
 // The records about the module itself: its object file, how it was compiled, the namespaces that it uses and its build information.
 //
 // Each function takes a record of its class, kind first, and answers the typed record and the bytes that it took.
+// The arms of a match return: where they met, one more `Decoded` would stand at every step of the proof.
 ghost use mathlib.Core.Path.{_≡_};
 ghost use Prim.Native.Nat.{_+_, _≤_};
 ghost use lib.ListN.{length};
@@ -44,9 +45,9 @@ pub fn parse_obj_name(s: &[u8], kind: u16) -> Decoded
                 signature: common::u32_at(s, 2),
                 name,
             };
-            Decoded::Record(SymbolData::ObjName(data), next)
+            return Decoded::Record(SymbolData::ObjName(data), next);
         }
-        ParsedPart::Refused(e) => Decoded::Refused(e),
+        ParsedPart::Refused(e) => return Decoded::Refused(e),
     }
 }
 
@@ -91,9 +92,9 @@ fn parse_compile2(s: &[u8], kind: u16) -> Decoded
                 backend_version: version_at(s, 14),
                 version_string,
             };
-            Decoded::Record(SymbolData::CompileFlags(data), next)
+            return Decoded::Record(SymbolData::CompileFlags(data), next);
         }
-        ParsedPart::Refused(e) => Decoded::Refused(e),
+        ParsedPart::Refused(e) => return Decoded::Refused(e),
     }
 }
 
@@ -114,9 +115,9 @@ fn parse_compile3(s: &[u8], kind: u16) -> Decoded
                 backend_version: version_with_qfe_at(s, 16),
                 version_string,
             };
-            Decoded::Record(SymbolData::CompileFlags(data), next)
+            return Decoded::Record(SymbolData::CompileFlags(data), next);
         }
-        ParsedPart::Refused(e) => Decoded::Refused(e),
+        ParsedPart::Refused(e) => return Decoded::Refused(e),
     }
 }
 
@@ -124,10 +125,9 @@ pub fn parse_compile_flags(s: &[u8], kind: u16) -> Decoded
     ensures { λ r. ⌜ decodedOf r ≡ compile kind (now (s .entry)) 2 ⌝ }
 {
     if kind == S_COMPILE3 {
-        parse_compile3(s, kind)
-    } else {
-        parse_compile2(s, kind)
+        return parse_compile3(s, kind);
     }
+    parse_compile2(s, kind)
 }
 
 pub fn parse_using_namespace(s: &[u8], kind: u16) -> Decoded
@@ -136,8 +136,8 @@ pub fn parse_using_namespace(s: &[u8], kind: u16) -> Decoded
     match names::parse_symbol_name(s, 2, kind) {
         ParsedPart::Value(name, next) => {
             let data = UsingNamespaceSymbol { name };
-            Decoded::Record(SymbolData::UsingNamespace(data), next)
+            return Decoded::Record(SymbolData::UsingNamespace(data), next);
         }
-        ParsedPart::Refused(e) => Decoded::Refused(e),
+        ParsedPart::Refused(e) => return Decoded::Refused(e),
     }
 }

@@ -1,4 +1,6 @@
 // The records that other modules look names up by: publics, exports, and references to what another module holds.
+//
+// The arms of a match return: where they met, one more `Decoded` would stand at every step of the proof.
 ghost use mathlib.Core.Path.{_≡_};
 ghost use Rattle.records.specs.Answer.{decodedOf};
 ghost use Rattle.references.specs.Reference.{publicSymbol, exportSymbol, optionalName, procedureReference, dataReference, annotationReference};
@@ -36,9 +38,9 @@ pub fn parse_public(s: &[u8], kind: u16) -> Decoded
                 },
                 name,
             };
-            Decoded::Record(SymbolData::Public(data), next)
+            return Decoded::Record(SymbolData::Public(data), next);
         }
-        ParsedPart::Refused(e) => Decoded::Refused(e),
+        ParsedPart::Refused(e) => return Decoded::Refused(e),
     }
 }
 
@@ -76,9 +78,9 @@ pub fn parse_procedure_reference(s: &[u8], kind: u16) -> Decoded
                 module: records::module_of(common::u16_at(s, 10)),
                 name,
             };
-            Decoded::Record(SymbolData::ProcedureReference(data), next)
+            return Decoded::Record(SymbolData::ProcedureReference(data), next);
         }
-        ParsedOptionPart::Refused(e) => Decoded::Refused(e),
+        ParsedOptionPart::Refused(e) => return Decoded::Refused(e),
     }
 }
 
@@ -96,9 +98,9 @@ pub fn parse_data_reference(s: &[u8], kind: u16) -> Decoded
                 module: records::module_of(common::u16_at(s, 10)),
                 name,
             };
-            Decoded::Record(SymbolData::DataReference(data), next)
+            return Decoded::Record(SymbolData::DataReference(data), next);
         }
-        ParsedOptionPart::Refused(e) => Decoded::Refused(e),
+        ParsedOptionPart::Refused(e) => return Decoded::Refused(e),
     }
 }
 
@@ -116,9 +118,9 @@ pub fn parse_annotation_reference(s: &[u8], kind: u16) -> Decoded
                 module: records::module_of(common::u16_at(s, 10)),
                 name,
             };
-            Decoded::Record(SymbolData::AnnotationReference(data), next)
+            return Decoded::Record(SymbolData::AnnotationReference(data), next);
         }
-        ParsedPart::Refused(e) => Decoded::Refused(e),
+        ParsedPart::Refused(e) => return Decoded::Refused(e),
     }
 }
 
@@ -135,8 +137,8 @@ pub fn parse_export(s: &[u8], kind: u16) -> Decoded
                 flags: ExportSymbolFlags::from_bits(common::u16_at(s, 4)),
                 name,
             };
-            Decoded::Record(SymbolData::Export(data), next)
+            return Decoded::Record(SymbolData::Export(data), next);
         }
-        ParsedPart::Refused(e) => Decoded::Refused(e),
+        ParsedPart::Refused(e) => return Decoded::Refused(e),
     }
 }

@@ -2,6 +2,7 @@
 //
 // A decoder is given the whole record, kind first, so that its fields start at position 2. It tests the room of the fields
 // once, then reads them.
+// The arms of a match return: where they met, one more `Decoded` would stand at every step of the proof.
 ghost use mathlib.Core.Path.{_≡_};
 ghost use Rattle.records.specs.Answer.{decodedOf};
 ghost use Rattle.scopes.specs.Scope.{procedure, plainSite, countedSite, inlineSite, block, separatedCode};
@@ -50,9 +51,9 @@ pub fn parse_procedure(s: &[u8], kind: u16) -> Decoded
                 flags: ProcedureFlags::from_bits(common::u8_at(s, 36)),
                 name,
             };
-            Decoded::Record(SymbolData::Procedure(data), next)
+            return Decoded::Record(SymbolData::Procedure(data), next);
         }
-        ParsedPart::Refused(e) => Decoded::Refused(e),
+        ParsedPart::Refused(e) => return Decoded::Refused(e),
     }
 }
 
@@ -100,10 +101,9 @@ pub fn parse_inline_site(s: &[u8], kind: u16) -> Decoded
     ensures { λ r. ⌜ decodedOf r ≡ inlineSite kind (now (s .entry)) 2 ⌝ }
 {
     if kind == S_INLINESITE2 {
-        parse_counted_site(s)
-    } else {
-        parse_plain_site(s)
+        return parse_counted_site(s);
     }
+    parse_plain_site(s)
 }
 
 pub fn parse_block(s: &[u8], kind: u16) -> Decoded
@@ -124,9 +124,9 @@ pub fn parse_block(s: &[u8], kind: u16) -> Decoded
                 },
                 name,
             };
-            Decoded::Record(SymbolData::Block(data), next)
+            return Decoded::Record(SymbolData::Block(data), next);
         }
-        ParsedPart::Refused(e) => Decoded::Refused(e),
+        ParsedPart::Refused(e) => return Decoded::Refused(e),
     }
 }
 

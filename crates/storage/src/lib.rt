@@ -1,6 +1,7 @@
 // The records of variables that lie in memory: data, thread storage, locals, and what is addressed relative to a register.
 //
 // Each function takes a record of its class, kind first, and answers the typed record and the bytes that it took.
+// The arms of a match return: where they met, one more `Decoded` would stand at every step of the proof.
 ghost use mathlib.Core.Path.{_≡_};
 ghost use Rattle.records.specs.Answer.{decodedOf};
 ghost use Rattle.storage.specs.Storage.{dataItem, threadStorage, local, registerRelative};
@@ -47,9 +48,9 @@ pub fn parse_data(s: &[u8], kind: u16) -> Decoded
                 },
                 name,
             };
-            Decoded::Record(SymbolData::Data(data), next)
+            return Decoded::Record(SymbolData::Data(data), next);
         }
-        ParsedPart::Refused(e) => Decoded::Refused(e),
+        ParsedPart::Refused(e) => return Decoded::Refused(e),
     }
 }
 
@@ -70,9 +71,9 @@ pub fn parse_thread_storage(s: &[u8], kind: u16) -> Decoded
                 },
                 name,
             };
-            Decoded::Record(SymbolData::ThreadStorage(data), next)
+            return Decoded::Record(SymbolData::ThreadStorage(data), next);
         }
-        ParsedPart::Refused(e) => Decoded::Refused(e),
+        ParsedPart::Refused(e) => return Decoded::Refused(e),
     }
 }
 
@@ -89,9 +90,9 @@ pub fn parse_local(s: &[u8], kind: u16) -> Decoded
                 flags: LocalVariableFlags::from_bits(common::u16_at(s, 6)),
                 name,
             };
-            Decoded::Record(SymbolData::Local(data), next)
+            return Decoded::Record(SymbolData::Local(data), next);
         }
-        ParsedPart::Refused(e) => Decoded::Refused(e),
+        ParsedPart::Refused(e) => return Decoded::Refused(e),
     }
 }
 
@@ -109,8 +110,8 @@ pub fn parse_register_relative(s: &[u8], kind: u16) -> Decoded
                 register: common::u16_at(s, 10),
                 name,
             };
-            Decoded::Record(SymbolData::RegisterRelative(data), next)
+            return Decoded::Record(SymbolData::RegisterRelative(data), next);
         }
-        ParsedPart::Refused(e) => Decoded::Refused(e),
+        ParsedPart::Refused(e) => return Decoded::Refused(e),
     }
 }

@@ -3,8 +3,11 @@ ghost use mathlib.Core.Path.{_≡_};
 ghost use Rattle.constants.specs.Kind.{classOf};
 ghost use Rattle.records.specs.Answer.{decodedOf};
 ghost use Rattle.symbol.specs.Decode.{layout};
-ghost use Rattle.variables.specs.Variable.{constant};
+ghost use Rattle.modules.specs.Module.{compile};
+ghost use Rattle.registers.specs.Registers.{multiRegisterVariable};
+ghost use Rattle.scopes.specs.Scope.{inlineSite};
 ghost use Rattle.thunks.specs.Thunk.{thunk};
+ghost use Rattle.variables.specs.Variable.{constant};
 ghost use Rattle.symbol_name.specs.Name.{nameOf, namedBy, nameBytes};
 ghost use Rattle.symbol_name.specs.Behind.{namedBehind, unnamedBehind, optionalBehind, nothingBehind, unnamedBy};
 use common::Refusal;
@@ -82,6 +85,26 @@ fn unnamed(d: Decoded) -> Named
     }
 }
 
+// The decoded records of these three classes each have a function of their own: in one that chooses among all classes they would
+// stand, unread, at every step of its proof.
+fn register_list_name(s: &[u8], kind: u16) -> Named
+    ensures { λ r. ⌜ r ≡ namedBy (multiRegisterVariable kind (now (s .entry)) 2) ⌝ }
+{
+    unnamed(registers::parse_multi_register_variable(s, kind))
+}
+
+fn compile_name(s: &[u8], kind: u16) -> Named
+    ensures { λ r. ⌜ r ≡ namedBy (compile kind (now (s .entry)) 2) ⌝ }
+{
+    unnamed(modules::parse_compile_flags(s, kind))
+}
+
+fn inline_site_name(s: &[u8], kind: u16) -> Named
+    ensures { λ r. ⌜ r ≡ namedBy (inlineSite kind (now (s .entry)) 2) ⌝ }
+{
+    unnamed(scopes::parse_inline_site(s, kind))
+}
+
 fn constant_name(s: &[u8], kind: u16) -> Named
     ensures { λ r. ⌜ r ≡ namedBy (constant kind (now (s .entry)) 2) ⌝ }
 {
@@ -129,14 +152,12 @@ fn name_by_kind(s: &[u8], kind: u16) -> Named
         Class::RegisterVariable => unnamed_behind(s, 8, kind),
         Class::Constant => constant_name(s, kind),
         Class::UserDefinedType => named_behind(s, 6, kind),
-        Class::MultiRegisterVariable => {
-            unnamed(registers::parse_multi_register_variable(s, kind))
-        }
+        Class::MultiRegisterVariable => register_list_name(s, kind),
         Class::Data => named_behind(s, 12, kind),
         Class::Public => named_behind(s, 12, kind),
         Class::Procedure => named_behind(s, 37, kind),
         Class::ThreadStorage => named_behind(s, 12, kind),
-        Class::CompileFlags => unnamed(modules::parse_compile_flags(s, kind)),
+        Class::CompileFlags => compile_name(s, kind),
         Class::UsingNamespace => named_behind(s, 2, kind),
         Class::ProcedureReference => optional_behind(s, 12, kind),
         Class::DataReference => optional_behind(s, 12, kind),
@@ -145,7 +166,7 @@ fn name_by_kind(s: &[u8], kind: u16) -> Named
         Class::Export => named_behind(s, 6, kind),
         Class::Local => named_behind(s, 8, kind),
         Class::BuildInfo => nothing_behind(s, 6),
-        Class::InlineSite => unnamed(scopes::parse_inline_site(s, kind)),
+        Class::InlineSite => inline_site_name(s, kind),
         Class::InlineSiteEnd => Named::Answer(OptionPart::None),
         Class::ProcedureEnd => Named::Answer(OptionPart::None),
         Class::Label => named_behind(s, 9, kind),

@@ -2,6 +2,7 @@
 //
 // A decoder is given the whole record, kind first, so that its fields start at position 2. It tests the room of the fields
 // once, then reads them.
+// The arms of a match return: where they met, one more `Decoded` would stand at every step of the proof.
 ghost use mathlib.Core.Path.{_≡_};
 ghost use Rattle.records.specs.Answer.{decodedOf};
 ghost use Rattle.thunks.specs.Thunk.{adjustor, thunkKind, thunk, trampoline, label};
@@ -56,9 +57,9 @@ pub fn parse_label(s: &[u8], kind: u16) -> Decoded
                 flags: ProcedureFlags::from_bits(common::u8_at(s, 8)),
                 name,
             };
-            Decoded::Record(SymbolData::Label(data), next)
+            return Decoded::Record(SymbolData::Label(data), next);
         }
-        ParsedPart::Refused(e) => Decoded::Refused(e),
+        ParsedPart::Refused(e) => return Decoded::Refused(e),
     }
 }
 
@@ -122,10 +123,10 @@ pub fn parse_thunk(s: &[u8], kind: u16) -> Decoded
                     kind: variant,
                     name,
                 };
-                Decoded::Record(SymbolData::Thunk(data), next)
+                return Decoded::Record(SymbolData::Thunk(data), next);
             }
-            ParsedThunkKind::Refused(e) => Decoded::Refused(e),
+            ParsedThunkKind::Refused(e) => return Decoded::Refused(e),
         },
-        ParsedPart::Refused(e) => Decoded::Refused(e),
+        ParsedPart::Refused(e) => return Decoded::Refused(e),
     }
 }

@@ -1,6 +1,7 @@
 // The records of register variables, constants and types.
 //
 // Each function takes a record of its class, kind first, and answers the typed record and the bytes that it took.
+// The arms of a match return: where they met, one more `Decoded` would stand at every step of the proof.
 ghost use mathlib.Core.Path.{_≡_};
 ghost use Rattle.records.specs.Answer.{decodedOf};
 ghost use Rattle.variables.specs.Variable.{registerVariable, constant, userDefinedType};
@@ -27,9 +28,9 @@ pub fn parse_register_variable(s: &[u8], kind: u16) -> Decoded
                 register: common::u16_at(s, 6),
                 name,
             };
-            Decoded::Record(SymbolData::RegisterVariable(data), next)
+            return Decoded::Record(SymbolData::RegisterVariable(data), next);
         }
-        ParsedPart::Refused(e) => Decoded::Refused(e),
+        ParsedPart::Refused(e) => return Decoded::Refused(e),
     }
 }
 
@@ -48,11 +49,11 @@ pub fn parse_constant(s: &[u8], kind: u16) -> Decoded
                     value,
                     name,
                 };
-                Decoded::Record(SymbolData::Constant(data), next)
+                return Decoded::Record(SymbolData::Constant(data), next);
             }
-            ParsedPart::Refused(e) => Decoded::Refused(e),
+            ParsedPart::Refused(e) => return Decoded::Refused(e),
         },
-        ParsedVariant::Refused(e) => Decoded::Refused(e),
+        ParsedVariant::Refused(e) => return Decoded::Refused(e),
     }
 }
 
@@ -68,8 +69,8 @@ pub fn parse_user_defined_type(s: &[u8], kind: u16) -> Decoded
                 type_index: common::u32_at(s, 2),
                 name,
             };
-            Decoded::Record(SymbolData::UserDefinedType(data), next)
+            return Decoded::Record(SymbolData::UserDefinedType(data), next);
         }
-        ParsedPart::Refused(e) => Decoded::Refused(e),
+        ParsedPart::Refused(e) => return Decoded::Refused(e),
     }
 }

@@ -27,22 +27,22 @@ turnAt c = record { inv = c .before .loop .inv; scan = c .scan-at .ensures }
 
 -- the record that it yields
 recordAt : (c : tie.After-known-told2 Inv-loop μ-loop) →
-    Yields (c .before .before .before .before .before .before .before .before .before .before .before .before .args .s .now) (c .before .before .before .before .before .before .before .before .before .before .before .before .args .start) (c .before .before .before .before .before .before .before .loop .opens) (c .before .before .before .before .before .before .before .loop .ends) (c .before .before .before .before .before .before .before .loop .n) (c .before .before .before .before .before .before .before .loop .at) (c .before .before .before .before .before .before .scan-at .result)
+    Yields (c .before .before .before .before .before .before .before .before .before .args .s .now) (c .before .before .before .before .before .before .before .before .before .args .start) (c .before .before .before .before .loop .opens) (c .before .before .before .before .loop .ends) (c .before .before .before .before .loop .n) (c .before .before .before .before .loop .at) (c .before .before .before .scan-at .result)
     (c .before .found2 .given .0 .0) (c .before .found2 .given .0 .1 .0) (c .before .found2 .given .0 .1 .1 .0) (c .before .found2 .given .0 .1 .1 .1 .0)
-recordAt c = record { turn = turnAt (c .before .before .before .before .before .before); yields = c .before .found2 .given .1 }
+recordAt c = record { turn = turnAt (c .before .before .before); yields = c .before .found2 .given .1 }
 
 -- what is done with it, on its own bytes
-acted : (c : tie.After-act-at Inv-loop μ-loop) → c .act-at .result ≡ act (recordAt (c .before .before .before .before .before .before))
+acted : (c : tie.After-act-at Inv-loop μ-loop) → c .act-at .result ≡ act (recordAt (c .before .before .before .before .before .before .before))
 acted c =
-    let e : c .before .before .before .before .before .before .before .found2 .given .0 .1 .1 .1 .0 - c .before .before .before .before .before .before .before .found2 .given .0 .1 .0 ≡ c .before .before .before .before .before .before .before .found2 .given .0 .1 .1 .0 = omega (arith, found (recordAt (c .before .before .before .before .before .before))) in
-    c .act-at .ensures ∙ rw (e, c .before .before .before .before .before .before .before .before .before .innermost .ensures, c .before .before .before .innermost2 .ensures)
+    let e : c .before .before .before .before .before .before .before .before .found2 .given .0 .1 .1 .1 .0 - c .before .before .before .before .before .before .before .before .found2 .given .0 .1 .0 ≡ c .before .before .before .before .before .before .before .before .found2 .given .0 .1 .1 .0 = omega (arith, found (recordAt (c .before .before .before .before .before .before .before))) in
+    c .act-at .ensures ∙ rw e
 
 -- a push finds room, and a pop an open opener
-pushRoom : (c : tie.After-known-told3 Inv-loop μ-loop) → c .before .before .before .before .before .before .before .before .before .before .before .before .before .before .before .before .loop .opens .depth < 64
-pushRoom c = push-room (recordAt (c .before .before .before .before .before .before .before .before .before)) (sym (acted (c .before .before .before)) ∙ c .before .own .given .1)
+pushRoom : (c : tie.After-known-told3 Inv-loop μ-loop) → c .before .before .before .before .before .before .before .before .before .before .before .before .before .before .loop .opens .depth < 64
+pushRoom c = push-room (recordAt (c .before .before .before .before .before .before .before .before .before .before)) (sym (acted (c .before .before .before)) ∙ c .before .end .given .1)
 
-popRoom : (c : tie.After-enum-told3 Inv-loop μ-loop) → c .before .before .before .before .before .before .before .before .before .before .before .before .before .before .before .loop .opens .depth ≡ 0 → ⊥
-popRoom c = pop-room (recordAt (c .before .before .before .before .before .before .before .before)) (sym (acted (c .before .before)) ∙ c .enum-told3 .given .1)
+popRoom : (c : tie.After-enum-told3 Inv-loop μ-loop) → c .before .before .before .before .before .before .before .before .before .before .before .before .before .loop .opens .depth ≡ 0 → ⊥
+popRoom c = pop-room (recordAt (c .before .before .before .before .before .before .before .before .before)) (sym (acted (c .before .before)) ∙ c .enum-told3 .given .1)
 
 -- the answer is the definition's, and its sums add up
 both : (s : List ℕ) (start : ℕ) (r : Checked) → r ≡ checkOf s start → (r ≡ checkOf s start) × addsUp r s start
@@ -63,41 +63,38 @@ loop-holds c = rw (c .no-counts .ensures) (checking-first _ _ _ _ (c .before .be
 scan-at-requires : tie.Need-scan-at-requires Inv-loop μ-loop
 scan-at-requires c κs = search needs
 
-innermost-requires : tie.Need-innermost-requires Inv-loop μ-loop
-innermost-requires c κs = search needs
-
 enum-told : tie.Need-enum-told Inv-loop μ-loop
 enum-told c = search needs
+
+innermost-requires : tie.Need-innermost-requires Inv-loop μ-loop
+innermost-requires c κs = search needs
 
 at-end-requires : tie.Need-at-end-requires Inv-loop μ-loop
 at-end-requires c κs = omega (arith, turnAt (c .before .before .before .before .before) .inv, scanned (turnAt (c .before .before .before .before .before)))
 
 returns : tie.Need-returns Inv-loop μ-loop
-returns c = both _ _ _ (c .at-end .ensures ∙ rw (c .before .before .before .innermost .ensures) (at-end (turnAt (c .before .before .before .before .before .before)) (c .before .enum-told .given .1)))
+returns c = both _ _ _ (c .at-end .ensures ∙ rw (c .before .innermost .ensures) (at-end (turnAt (c .before .before .before .before .before .before)) (c .before .before .before .before .enum-told .given .1)))
 
 enum-known-found : tie.Need-enum-known-found Inv-loop μ-loop
 enum-known-found c = search needs
 
 returns-2 : tie.Need-returns-2 Inv-loop μ-loop
-returns-2 c = both _ _ _ (at-refused (turnAt (c .before .before .before .before .before .before)) (c .before .found .given .1))
+returns-2 c = both _ _ _ (at-refused (turnAt (c .before .before .before)) (c .before .found .given .1))
 
 enum-known-found-2 : tie.Need-enum-known-found-2 Inv-loop μ-loop
 enum-known-found-2 c = search needs
 
-innermost-requires-2 : tie.Need-innermost-requires-2 Inv-loop μ-loop
-innermost-requires-2 c κs = search needs
-
 counted-requires : tie.Need-counted-requires Inv-loop μ-loop
-counted-requires c κs = omega (arith, turnAt (c .before .before .before .before .before .before .before .before .before) .inv, scanned (turnAt (c .before .before .before .before .before .before .before .before .before)), found (recordAt (c .before .before .before)))
+counted-requires c κs = omega (arith, turnAt (c .before .before .before) .inv, scanned (turnAt (c .before .before .before)), found (recordAt c))
 
 sub-act-at : tie.Need-sub-act-at Inv-loop μ-loop
-sub-act-at c = omega (arith, found (recordAt (c .before .before .before .before)))
+sub-act-at c = omega (arith, found (recordAt (c .before)))
 
 part-act-at-start : tie.Need-part-act-at-start Inv-loop μ-loop
-part-act-at-start c = omega (arith, found (recordAt (c .before .before .before .before)))
+part-act-at-start c = omega (arith, found (recordAt (c .before)))
 
 part-act-at-end : tie.Need-part-act-at-end Inv-loop μ-loop
-part-act-at-end c = omega (arith, found (recordAt (c .before .before .before .before)))
+part-act-at-end c = omega (arith, found (recordAt (c .before)))
 
 act-at-requires : tie.Need-act-at-requires Inv-loop μ-loop
 act-at-requires c κs = search needs
@@ -106,16 +103,16 @@ enum-told-2 : tie.Need-enum-told-2 Inv-loop μ-loop
 enum-told-2 c = search needs
 
 loop-less : tie.Need-loop-less Inv-loop μ-loop
-loop-less c = omega (arith, found (recordAt (c .before .before .before .before .before .before .before .before)))
+loop-less c = omega (arith, found (recordAt (c .before .before .before .before .before .before .before .before .before)))
 
 loop-again : tie.Need-loop-again Inv-loop μ-loop
-loop-again c = rw (c .before .before .before .before .counted .ensures) (go-stay (recordAt (c .before .before .before .before .before .before .before .before)) (sym (acted (c .before .before)) ∙ c .enum-told2 .given .1))
+loop-again c = rw (c .before .before .before .before .before .before .before .before .counted .ensures) (go-stay (recordAt (c .before .before .before .before .before .before .before .before .before)) (sym (acted (c .before .before)) ∙ c .enum-told2 .given .1))
 
-enum-known-own : tie.Need-enum-known-own Inv-loop μ-loop
-enum-known-own c = search needs
+enum-known-end : tie.Need-enum-known-end Inv-loop μ-loop
+enum-known-end c = search needs
 
 cast-opens : tie.Need-cast-opens Inv-loop μ-loop
-cast-opens c = omega (arith, found (recordAt (c .before .before .before .before .before .before .before .before .before)))
+cast-opens c = omega (arith, found (recordAt (c .before .before .before .before .before .before .before .before .before .before)))
 
 mul-opens : tie.Need-mul-opens Inv-loop μ-loop
 mul-opens c = omega (arith, pushRoom c)
@@ -137,38 +134,47 @@ add-ends c = omega (arith, pushRoom c)
 
 opened-requires : tie.Need-opened-requires Inv-loop μ-loop
 unfolding countedOf
-opened-requires c κs = let o : c .before .before .before .before .before .counted .result .openers ≡ c .before .before .before .before .before .before .before .before .before .before .before .before .before .before .before .before .loop .n .openers = ap (λ (m : Counts). m .openers) (c .before .before .before .before .before .counted .ensures) in
-    omega (arith, turnAt (c .before .before .before .before .before .before .before .before .before .before .before .before .before .before .before) .inv, found (recordAt (c .before .before .before .before .before .before .before .before .before)), pushRoom c)
+opened-requires c κs = let o : c .before .before .before .before .before .before .before .before .before .counted .result .openers ≡ c .before .before .before .before .before .before .before .before .before .before .before .before .before .before .loop .n .openers = ap (λ (m : Counts). m .openers) (c .before .before .before .before .before .before .before .before .before .counted .ensures) in
+    omega (arith, turnAt (c .before .before .before .before .before .before .before .before .before .before .before .before .before) .inv, found (recordAt (c .before .before .before .before .before .before .before .before .before .before)), pushRoom c)
 
 loop-less-2 : tie.Need-loop-less-2 Inv-loop μ-loop
-loop-less-2 c = omega (arith, found (recordAt (c .before .before .before .before .before .before .before .before .before .before)))
+loop-less-2 c = omega (arith, found (recordAt (c .before .before .before .before .before .before .before .before .before .before .before)))
 
 loop-again-2 : tie.Need-loop-again-2 Inv-loop μ-loop
-loop-again-2 c = rw (c .opened .ensures, c .before .before .before .before .before .before .counted .ensures) (go-push (recordAt (c .before .before .before .before .before .before .before .before .before .before)) (sym (acted (c .before .before .before .before)) ∙ c .before .before .own .given .1))
+loop-again-2 c = rw (c .opened .ensures, c .before .before .before .before .before .before .before .before .before .before .counted .ensures) (go-push (recordAt (c .before .before .before .before .before .before .before .before .before .before .before)) (sym (acted (c .before .before .before .before)) ∙ c .before .before .end .given .1))
 
 enum-told-3 : tie.Need-enum-told-3 Inv-loop μ-loop
 enum-told-3 c = search needs
 
-sub-last : tie.Need-sub-last Inv-loop μ-loop
-sub-last c = omega (arith, popRoom c)
+sub-opens : tie.Need-sub-opens Inv-loop μ-loop
+sub-opens c = omega (arith, popRoom c)
 
 mul-opens-2 : tie.Need-mul-opens-2 Inv-loop μ-loop
-mul-opens-2 c = omega (arith, popRoom c, depth-most (turnAt (c .before .before .before .before .before .before .before .before .before .before .before .before .before .before)))
+mul-opens-2 c = omega (arith, popRoom c, depth-most (turnAt (c .before .before .before .before .before .before .before .before .before .before .before .before)))
 
 element-write-opens-2 : tie.Need-element-write-opens-2 Inv-loop μ-loop
-element-write-opens-2 c = omega (arith, popRoom c, depth-most (turnAt (c .before .before .before .before .before .before .before .before .before .before .before .before .before .before)))
+element-write-opens-2 c = omega (arith, popRoom c, depth-most (turnAt (c .before .before .before .before .before .before .before .before .before .before .before .before)))
+
+sub-opens-2 : tie.Need-sub-opens-2 Inv-loop μ-loop
+sub-opens-2 c = omega (arith, popRoom c)
+
+sub-ends : tie.Need-sub-ends Inv-loop μ-loop
+sub-ends c = omega (arith, popRoom c)
 
 mul-ends-2 : tie.Need-mul-ends-2 Inv-loop μ-loop
-mul-ends-2 c = omega (arith, popRoom c, depth-most (turnAt (c .before .before .before .before .before .before .before .before .before .before .before .before .before .before)))
+mul-ends-2 c = omega (arith, popRoom c, depth-most (turnAt (c .before .before .before .before .before .before .before .before .before .before .before .before)))
 
 element-write-ends-2 : tie.Need-element-write-ends-2 Inv-loop μ-loop
-element-write-ends-2 c = omega (arith, popRoom c, depth-most (turnAt (c .before .before .before .before .before .before .before .before .before .before .before .before .before .before)))
+element-write-ends-2 c = omega (arith, popRoom c, depth-most (turnAt (c .before .before .before .before .before .before .before .before .before .before .before .before)))
+
+sub-ends-2 : tie.Need-sub-ends-2 Inv-loop μ-loop
+sub-ends-2 c = omega (arith, popRoom c)
 
 loop-less-3 : tie.Need-loop-less-3 Inv-loop μ-loop
-loop-less-3 c = omega (arith, found (recordAt (c .before .before .before .before .before .before .before .before)))
+loop-less-3 c = omega (arith, found (recordAt (c .before .before .before .before .before .before .before .before .before)))
 
 loop-again-3 : tie.Need-loop-again-3 Inv-loop μ-loop
-loop-again-3 c = rw (c .before .before .before .before .counted .ensures) (go-pop (recordAt (c .before .before .before .before .before .before .before .before)) (sym (acted (c .before .before)) ∙ c .enum-told3 .given .1))
+loop-again-3 c = rw (c .before .before .before .before .before .before .before .before .counted .ensures) (go-pop (recordAt (c .before .before .before .before .before .before .before .before .before)) (sym (acted (c .before .before)) ∙ c .enum-told3 .given .1))
 
 enum-known-number : tie.Need-enum-known-number Inv-loop μ-loop
 enum-known-number c = search needs
@@ -177,7 +183,7 @@ refused-requires : tie.Need-refused-requires Inv-loop μ-loop
 refused-requires c κs = search needs
 
 returns-3 : tie.Need-returns-3 Inv-loop μ-loop
-returns-3 c = both _ _ _ (c .refused .ensures ∙ at-stop (recordAt (c .before .before .before .before .before .before .before .before .before .before)) (sym (acted (c .before .before .before .before)) ∙ c .before .before .number .given .1))
+returns-3 c = both _ _ _ (c .refused .ensures ∙ at-stop (recordAt (c .before .before .before .before .before .before .before .before .before .before .before)) (sym (acted (c .before .before .before .before)) ∙ c .before .before .number .given .1))
 
 pub check-spec : {M : Type 1} → statement M
 check-spec =
@@ -190,14 +196,13 @@ check-spec =
     no-counts-requires
     loop-holds
     scan-at-requires
-    innermost-requires
     enum-told
+    innermost-requires
     at-end-requires
     returns
     enum-known-found
     returns-2
     enum-known-found-2
-    innermost-requires-2
     counted-requires
     sub-act-at
     part-act-at-start
@@ -206,7 +211,7 @@ check-spec =
     enum-told-2
     loop-less
     loop-again
-    enum-known-own
+    enum-known-end
     cast-opens
     mul-opens
     element-write-opens
@@ -218,11 +223,14 @@ check-spec =
     loop-less-2
     loop-again-2
     enum-told-3
-    sub-last
+    sub-opens
     mul-opens-2
     element-write-opens-2
+    sub-opens-2
+    sub-ends
     mul-ends-2
     element-write-ends-2
+    sub-ends-2
     loop-less-3
     loop-again-3
     enum-known-number

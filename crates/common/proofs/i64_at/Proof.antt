@@ -1,21 +1,31 @@
 -- `common::i64_at` meets its contract.
 -- Assumes nothing.
 use borrow.Author.Needs.{needs}
-use mir.Syntax.{w64}
-use mir.Facts.{toZ-ofZ}
 use mathlib.Core.Path.{ap, _∙_}
+use mir.Syntax.{w64}
 use Rattle.common.specs.Bytes.{signed}
+use Rattle.common.proofs.Laws.{signed-same, signed-flip}
 use Rattle.common.proofs.i64_at.Statement.{statement}
 use Rattle.common.proofs.i64_at.Tie as tie
 
 u64-at-requires : tie.Need-u64-at-requires
 u64-at-requires c κs = search needs
 
-i64-of-requires : tie.Need-i64-of-requires
-i64-of-requires c κs = search needs
+cast-result : tie.Need-cast-result
+cast-result c = search needs
 
 returns : tie.Need-returns
-returns c = toZ-ofZ {w = w64} {z = c .i64-of .result} (search needs) ∙ c .i64-of .ensures ∙ ap (signed 64) (c .before .u64-at .ensures)
+returns c = signed-same w64 _ ∙ ap (signed 64) (c .before .u64-at .ensures)
+
+sub-result : tie.Need-sub-result
+sub-result c = search needs
+
+cast-result-2 : tie.Need-cast-result-2
+cast-result-2 c = search needs
+
+returns-2 : tie.Need-returns-2
+returns-2 c = signed-flip w64 0xffffffffffffffff _ (search needs) ∙ ap (signed 64) (c .before .u64-at .ensures)
 
 pub i64-at-spec : {M : Type 1} → statement M
-i64-at-spec = tie.close (tie.spec u64-at-requires i64-of-requires returns)
+i64-at-spec =
+    tie.close (tie.spec u64-at-requires cast-result returns sub-result cast-result-2 returns-2)

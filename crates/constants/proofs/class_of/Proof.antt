@@ -1,21 +1,48 @@
 -- `constants::class_of` meets its contract.
 -- Assumes nothing.
 use borrow.Author.Needs.{needs}
-use Rattle.constants.proofs.Codes.{class-place, class-there}
+use mathlib.Core.Path.{_≡_, sym, _∙_, ap}
+use Prim.Native.Nat.{ℕ, _/_}
+use Rattle.constants.specs.Table.{codeOf}
+use Rattle.constants.proofs.Codes.{class-at, class-rest}
 use Rattle.constants.proofs.class_of.Statement.{statement}
 use Rattle.constants.proofs.class_of.Tie as tie
 
-code-of-requires : tie.Need-code-of-requires
-code-of-requires c κs = search needs
-
-cast-result : tie.Need-cast-result
-cast-result c = search needs
-
-array-copy-out-result : tie.Need-array-copy-out-result
-array-copy-out-result c = rw (c .code-of .ensures) (class-place (c .before .args .kind))
-
-returns : tie.Need-returns
-returns c = rw (c .before .code-of .ensures) (class-there (c .before .before .args .kind))
+-- what is matched
+class : (c : tie.After-code-of) → codeOf (c .before .args .kind) / 4 ≡ c .code-of .result / 4
+class c = ap (λ (x : ℕ). x / 4) (sym (c .code-of .ensures))
 
 pub class-of-spec : {M : Type 1} → statement M
-class-of-spec = tie.close (tie.spec code-of-requires cast-result array-copy-out-result returns)
+class-of-spec =
+    tie.close
+    (tie.spec
+    (λ c κs. search needs)
+    (λ c. class-at 0 _ (class (c .before) ∙ c .match .keys1))
+    (λ c. class-at 1 _ (class (c .before) ∙ c .match .keys2))
+    (λ c. class-at 2 _ (class (c .before) ∙ c .match .keys3))
+    (λ c. class-at 3 _ (class (c .before) ∙ c .match .keys4))
+    (λ c. class-at 4 _ (class (c .before) ∙ c .match .keys5))
+    (λ c. class-at 5 _ (class (c .before) ∙ c .match .keys6))
+    (λ c. class-at 6 _ (class (c .before) ∙ c .match .keys7))
+    (λ c. class-at 7 _ (class (c .before) ∙ c .match .keys8))
+    (λ c. class-at 8 _ (class (c .before) ∙ c .match .keys9))
+    (λ c. class-at 9 _ (class (c .before) ∙ c .match .keys10))
+    (λ c. class-at 10 _ (class (c .before) ∙ c .match .keys11))
+    (λ c. class-at 11 _ (class (c .before) ∙ c .match .keys12))
+    (λ c. class-at 12 _ (class (c .before) ∙ c .match .keys13))
+    (λ c. class-at 13 _ (class (c .before) ∙ c .match .keys14))
+    (λ c. class-at 14 _ (class (c .before) ∙ c .match .keys15))
+    (λ c. class-at 15 _ (class (c .before) ∙ c .match .keys16))
+    (λ c. class-at 16 _ (class (c .before) ∙ c .match .keys17))
+    (λ c. class-at 17 _ (class (c .before) ∙ c .match .keys18))
+    (λ c. class-at 18 _ (class (c .before) ∙ c .match .keys19))
+    (λ c. class-at 19 _ (class (c .before) ∙ c .match .keys20))
+    (λ c. class-at 20 _ (class (c .before) ∙ c .match .keys21))
+    (λ c. class-at 21 _ (class (c .before) ∙ c .match .keys22))
+    (λ c. class-at 22 _ (class (c .before) ∙ c .match .keys23))
+    (λ c. class-at 23 _ (class (c .before) ∙ c .match .keys24))
+    (λ c. class-at 24 _ (class (c .before) ∙ c .match .keys25))
+    (λ c. class-at 25 _ (class (c .before) ∙ c .match .keys26))
+    (λ c. class-at 26 _ (class (c .before) ∙ c .match .keys27))
+    (λ c. class-at 27 _ (class (c .before) ∙ c .match .keys28))
+    (λ c. class-rest _ (rw (sym (c .before .code-of .ensures)) (c .match .rest))))

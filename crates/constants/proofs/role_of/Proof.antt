@@ -1,21 +1,29 @@
 -- `constants::role_of` meets its contract.
 -- Assumes nothing.
 use borrow.Author.Needs.{needs}
-use Rattle.constants.proofs.Codes.{role-place, role-there}
+use native.Mathlib.Omega.{arith}
+use Prim.Native.Nat.{ℕ, _%_}
+use mathlib.Core.Path.{_≡_, sym, _∙_, ap}
+use Rattle.constants.specs.Table.{codeOf}
+use Rattle.constants.proofs.Codes.{role-place, role-at}
 use Rattle.constants.proofs.role_of.Statement.{statement}
 use Rattle.constants.proofs.role_of.Tie as tie
+
+-- what is matched
+role : (c : tie.After-code-of) → codeOf (c .before .args .kind) % 4 ≡ c .code-of .result % 4
+role c = ap (λ (x : ℕ). x % 4) (sym (c .code-of .ensures))
 
 code-of-requires : tie.Need-code-of-requires
 code-of-requires c κs = search needs
 
-cast-result : tie.Need-cast-result
-cast-result c = search needs
-
-array-copy-out-result : tie.Need-array-copy-out-result
-array-copy-out-result c = rw (c .code-of .ensures) (role-place (c .before .args .kind))
-
 returns : tie.Need-returns
-returns c = rw (c .before .code-of .ensures) (role-there (c .before .before .args .kind))
+returns c = role-at 1 _ (role (c .before) ∙ c .match .keys1)
+
+returns-2 : tie.Need-returns-2
+returns-2 c = role-at 2 _ (role (c .before) ∙ c .match .keys2)
+
+returns-3 : tie.Need-returns-3
+returns-3 c = role-at 0 _ (let e = role (c .before) in omega (arith, e, role-place (c .before .before .args .kind), c .match .rest))
 
 pub role-of-spec : {M : Type 1} → statement M
-role-of-spec = tie.close (tie.spec code-of-requires cast-result array-copy-out-result returns)
+role-of-spec = tie.close (tie.spec code-of-requires returns returns-2 returns-3)

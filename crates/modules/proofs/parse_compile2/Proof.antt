@@ -43,15 +43,15 @@ version-at-requires c κs = search needs
 version-at-requires-2 : tie.Need-version-at-requires-2
 version-at-requires-2 c κs = search needs
 
-enum-known-e : tie.Need-enum-known-e
-enum-known-e c = search needs
-
 returns-2 : tie.Need-returns-2
 returns-2 c =
     let n = c .before .before .before .before .before .before .before .before .before in
     let p = n .before .before in
     rw (c .version-at2 .ensures, c .before .version-at .ensures, c .before .before .cpu-type .ensures, c .before .before .before .u16-at2 .ensures, c .before .before .before .before .from-bits .ensures, c .before .before .before .before .before .u16-at .ensures, c .before .before .before .before .before .before .source-language .ensures, c .before .before .before .before .before .before .before .u8-at .ensures)
     (tailed-value compile2Row (symbolName _) compile2Of _ 2 (p .before .if1 .left) (sym (ap partOf (n .version-string .given .1)) ∙ p .parse-symbol-name .ensures) ∙ compile2-row _ _ 2)
+
+enum-known-e : tie.Need-enum-known-e
+enum-known-e c = search needs
 
 returns-3 : tie.Need-returns-3
 returns-3 c =
@@ -73,6 +73,6 @@ parse-compile2-spec =
     cpu-type-requires
     version-at-requires
     version-at-requires-2
-    enum-known-e
     returns-2
+    enum-known-e
     returns-3)

@@ -23,15 +23,15 @@ enum-known-name c = search needs
 u32-at-requires : tie.Need-u32-at-requires
 u32-at-requires c κs = search needs
 
-enum-known-e : tie.Need-enum-known-e
-enum-known-e c = search needs
-
 returns-2 : tie.Need-returns-2
 returns-2 c =
     let n = c .before .before in
     let p = n .before .before in
     rw (c .u32-at .ensures)
     (tailed-value objNameRow (symbolName _) objNameOf _ 2 (p .before .if1 .left) (sym (ap partOf (n .name .given .1)) ∙ p .parse-symbol-name .ensures) ∙ obj-name-row _ _ 2)
+
+enum-known-e : tie.Need-enum-known-e
+enum-known-e c = search needs
 
 returns-3 : tie.Need-returns-3
 returns-3 c =
@@ -46,6 +46,6 @@ parse-obj-name-spec =
     parse-symbol-name-requires
     enum-known-name
     u32-at-requires
-    enum-known-e
     returns-2
+    enum-known-e
     returns-3)

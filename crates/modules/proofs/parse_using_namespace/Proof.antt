@@ -15,14 +15,14 @@ parse-symbol-name-requires c κs = search needs
 enum-known-name : tie.Need-enum-known-name
 enum-known-name c = search needs
 
-enum-known-e : tie.Need-enum-known-e
-enum-known-e c = search needs
-
 returns : tie.Need-returns
 unfolding usingNamespace
 returns c =
     let p = c .before .before .before in
     sym (then-value (symbolName _) _ _ 2 (sym (p .parse-symbol-name .ensures) ∙ ap partOf (c .before .name .given .1)))
+
+enum-known-e : tie.Need-enum-known-e
+enum-known-e c = search needs
 
 returns-2 : tie.Need-returns-2
 unfolding usingNamespace
@@ -32,4 +32,4 @@ returns-2 c =
 
 pub parse-using-namespace-spec : {M : Type 1} → statement M
 parse-using-namespace-spec =
-    tie.close (tie.spec parse-symbol-name-requires enum-known-name enum-known-e returns returns-2)
+    tie.close (tie.spec parse-symbol-name-requires enum-known-name returns enum-known-e returns-2)

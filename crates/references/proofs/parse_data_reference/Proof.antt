@@ -30,9 +30,6 @@ u16-at-requires c κs = search needs
 module-of-requires : tie.Need-module-of-requires
 module-of-requires c κs = search needs
 
-enum-known-e : tie.Need-enum-known-e
-enum-known-e c = search needs
-
 returns-2 : tie.Need-returns-2
 unfolding dataReference
 returns-2 c =
@@ -41,6 +38,9 @@ returns-2 c =
     let p = n .before .before in
     rw (c .module-of .ensures, c .before .u16-at .ensures, c .before .before .u32-at2 .ensures, r .u32-at .ensures)
     (reference-value (optionalName _) dataReferenceOf _ 2 (p .before .if1 .left) (sym (ap optionalOf (n .name .given .1)) ∙ p .parse-optional-name .ensures))
+
+enum-known-e : tie.Need-enum-known-e
+enum-known-e c = search needs
 
 returns-3 : tie.Need-returns-3
 unfolding dataReference
@@ -59,6 +59,6 @@ parse-data-reference-spec =
     u32-at-requires-2
     u16-at-requires
     module-of-requires
-    enum-known-e
     returns-2
+    enum-known-e
     returns-3)

@@ -29,9 +29,6 @@ u16-at-requires-2 c κs = search needs
 from-bits-requires : tie.Need-from-bits-requires
 from-bits-requires c κs = search needs
 
-enum-known-e : tie.Need-enum-known-e
-enum-known-e c = search needs
-
 returns-2 : tie.Need-returns-2
 returns-2 c =
     let r = c .before .before in
@@ -39,6 +36,9 @@ returns-2 c =
     let p = n .before .before in
     rw (c .from-bits .ensures, c .before .u16-at2 .ensures, r .u16-at .ensures)
     (tailed-value exportRow (symbolName _) exportOf _ 2 (p .before .if1 .left) (sym (ap partOf (n .name .given .1)) ∙ p .parse-symbol-name .ensures) ∙ export-row _ _ 2)
+
+enum-known-e : tie.Need-enum-known-e
+enum-known-e c = search needs
 
 returns-3 : tie.Need-returns-3
 returns-3 c =
@@ -55,6 +55,6 @@ parse-export-spec =
     u16-at-requires
     u16-at-requires-2
     from-bits-requires
-    enum-known-e
     returns-2
+    enum-known-e
     returns-3)

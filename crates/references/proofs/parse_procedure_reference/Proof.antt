@@ -33,9 +33,6 @@ u16-at-requires c κs = search needs
 module-of-requires : tie.Need-module-of-requires
 module-of-requires c κs = search needs
 
-enum-known-e : tie.Need-enum-known-e
-enum-known-e c = search needs
-
 returns-2 : tie.Need-returns-2
 unfolding procedureReference
 returns-2 c =
@@ -45,6 +42,9 @@ returns-2 c =
     let a = p .before .before .before .args in
     rw (c .module-of .ensures, c .before .u16-at .ensures, c .before .before .u32-at2 .ensures, r .u32-at .ensures)
     (reference-value (optionalName (a .kind)) (procedureReferenceOf (a .kind)) (now (a .s)) 2 (p .before .if1 .left) (sym (ap optionalOf (n .name .given .1)) ∙ p .parse-optional-name .ensures))
+
+enum-known-e : tie.Need-enum-known-e
+enum-known-e c = search needs
 
 returns-3 : tie.Need-returns-3
 unfolding procedureReference
@@ -64,6 +64,6 @@ parse-procedure-reference-spec =
     u32-at-requires-2
     u16-at-requires
     module-of-requires
-    enum-known-e
     returns-2
+    enum-known-e
     returns-3)

@@ -35,9 +35,6 @@ u32-at-requires-4 c κs = search needs
 u16-at-requires : tie.Need-u16-at-requires
 u16-at-requires c κs = search needs
 
-enum-known-e : tie.Need-enum-known-e
-enum-known-e c = search needs
-
 returns-2 : tie.Need-returns-2
 returns-2 c =
     let r = c .before .before .before .before in
@@ -45,6 +42,9 @@ returns-2 c =
     let p = n .before .before in
     rw (c .u16-at .ensures, c .before .u32-at4 .ensures, c .before .before .u32-at3 .ensures, c .before .before .before .u32-at2 .ensures, r .u32-at .ensures)
     (tailed-value blockRow (symbolName _) blockOf _ 2 (p .before .if1 .left) (sym (ap partOf (n .name .given .1)) ∙ p .parse-symbol-name .ensures) ∙ block-row _ _ 2)
+
+enum-known-e : tie.Need-enum-known-e
+enum-known-e c = search needs
 
 returns-3 : tie.Need-returns-3
 returns-3 c =
@@ -63,6 +63,6 @@ parse-block-spec =
     u32-at-requires-3
     u32-at-requires-4
     u16-at-requires
-    enum-known-e
     returns-2
+    enum-known-e
     returns-3)

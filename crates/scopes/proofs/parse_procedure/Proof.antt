@@ -6,7 +6,11 @@ use mathlib.Core.List.{[], _∷_}
 use Rattle.common.proofs.Rows.{tailed-value, tailed-refused, tailed-short}
 use Rattle.names.specs.Name.{symbolName}
 use Rattle.names.specs.Answer.{partOf}
-use Rattle.scopes.specs.Scope.{procedureOf}
+use Rattle.common.specs.Reader.{value}
+use Rattle.records.specs.Field.{indexOf, place}
+use Rattle.records.specs.Flags.{procedureFlags}
+use Rattle.records.specs.declared.SymbolData.the-variants.{Procedure}
+use Rattle.scopes.specs.Scope.{procedureOf, globalProcedure, dpcProcedure}
 use Rattle.scopes.proofs.Rows.{procedureRow, procedure-row}
 use Rattle.scopes.proofs.parse_procedure.Statement.{statement}
 use Rattle.scopes.proofs.parse_procedure.Tie as tie
@@ -59,9 +63,7 @@ u8-at-requires c κs = search needs
 from-bits-requires : tie.Need-from-bits-requires
 from-bits-requires c κs = search needs
 
-enum-known-e : tie.Need-enum-known-e
-enum-known-e c = search needs
-
+-- field by field, since a chain of `rw` reads the whole record once for each
 returns-2 : tie.Need-returns-2
 returns-2 c =
     let a = c .before .before .before .before in
@@ -69,8 +71,25 @@ returns-2 c =
     let d = b .before .before .before .before in
     let n = d .before .before in
     let p = n .before .before in
-    rw (c .from-bits .ensures, c .before .u8-at .ensures, c .before .before .u16-at .ensures, c .before .before .before .u32-at8 .ensures, a .u32-at7 .ensures, a .before .u32-at6 .ensures, a .before .before .u32-at5 .ensures, a .before .before .before .u32-at4 .ensures, b .index-of2 .ensures, b .before .u32-at3 .ensures, b .before .before .u32-at2 .ensures, b .before .before .before .index-of .ensures, d .u32-at .ensures)
-    (tailed-value procedureRow (symbolName _) (procedureOf (p .before .before .before .args .kind)) _ 2 (p .before .if1 .left) (sym (ap partOf (n .name .given .1)) ∙ p .parse-symbol-name .ensures) ∙ procedure-row _ _ 2)
+    (λ i. value (Procedure (record {
+      global = globalProcedure (p .before .before .before .args .kind);
+      dpc = dpcProcedure (p .before .before .before .args .kind);
+      parent = (b .before .before .before .index-of .ensures ∙ ap indexOf (d .u32-at .ensures)) i;
+      end = b .before .before .u32-at2 .ensures i;
+      next = (b .index-of2 .ensures ∙ ap indexOf (b .before .u32-at3 .ensures)) i;
+      len = a .before .before .before .u32-at4 .ensures i;
+      «dbg_start_offset» = a .before .before .u32-at5 .ensures i;
+      «dbg_end_offset» = a .before .u32-at6 .ensures i;
+      «type_index» = a .u32-at7 .ensures i;
+      offset = place (c .before .before .before .u32-at8 .ensures i) (c .before .before .u16-at .ensures i);
+      flags = (c .from-bits .ensures ∙ ap procedureFlags (c .before .u8-at .ensures)) i;
+      name = n .name .given .0 .0;
+    })) (n .name .given .0 .1 .0))
+    ∙ tailed-value procedureRow (symbolName _) (procedureOf (p .before .before .before .args .kind)) _ 2 (p .before .if1 .left) (sym (ap partOf (n .name .given .1)) ∙ p .parse-symbol-name .ensures)
+    ∙ procedure-row _ _ 2
+
+enum-known-e : tie.Need-enum-known-e
+enum-known-e c = search needs
 
 returns-3 : tie.Need-returns-3
 returns-3 c =
@@ -97,6 +116,6 @@ parse-procedure-spec =
     u16-at-requires
     u8-at-requires
     from-bits-requires
-    enum-known-e
     returns-2
+    enum-known-e
     returns-3)

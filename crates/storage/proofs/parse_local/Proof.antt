@@ -29,15 +29,15 @@ u16-at-requires c κs = search needs
 from-bits-requires : tie.Need-from-bits-requires
 from-bits-requires c κs = search needs
 
-enum-known-e : tie.Need-enum-known-e
-enum-known-e c = search needs
-
 returns-2 : tie.Need-returns-2
 returns-2 c =
     let n = c .before .before .before .before in
     let p = n .before .before in
     rw (c .from-bits .ensures, c .before .u16-at .ensures, c .before .before .u32-at .ensures)
     (tailed-value localRow (symbolName _) localOf _ 2 (p .before .if1 .left) (sym (ap partOf (n .name .given .1)) ∙ p .parse-symbol-name .ensures) ∙ local-row _ _ 2)
+
+enum-known-e : tie.Need-enum-known-e
+enum-known-e c = search needs
 
 returns-3 : tie.Need-returns-3
 returns-3 c =
@@ -54,6 +54,6 @@ parse-local-spec =
     u32-at-requires
     u16-at-requires
     from-bits-requires
-    enum-known-e
     returns-2
+    enum-known-e
     returns-3)

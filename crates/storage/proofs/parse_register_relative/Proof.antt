@@ -31,15 +31,15 @@ u32-at-requires c κs = search needs
 u16-at-requires : tie.Need-u16-at-requires
 u16-at-requires c κs = search needs
 
-enum-known-e : tie.Need-enum-known-e
-enum-known-e c = search needs
-
 returns-2 : tie.Need-returns-2
 returns-2 c =
     let n = c .before .before .before .before in
     let p = n .before .before in
     rw (c .u16-at .ensures, c .before .u32-at .ensures, toZ-ofZ {w = w32} {z = c .before .before .i32-at .result} (search needs), c .before .before .i32-at .ensures)
     (tailed-value registerRelativeRow (symbolName _) registerRelativeOf _ 2 (p .before .if1 .left) (sym (ap partOf (n .name .given .1)) ∙ p .parse-symbol-name .ensures) ∙ register-relative-row _ _ 2)
+
+enum-known-e : tie.Need-enum-known-e
+enum-known-e c = search needs
 
 returns-3 : tie.Need-returns-3
 returns-3 c =
@@ -56,6 +56,6 @@ parse-register-relative-spec =
     i32-at-requires
     u32-at-requires
     u16-at-requires
-    enum-known-e
     returns-2
+    enum-known-e
     returns-3)

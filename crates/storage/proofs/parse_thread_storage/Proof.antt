@@ -31,9 +31,6 @@ u32-at-requires-2 c κs = search needs
 u16-at-requires : tie.Need-u16-at-requires
 u16-at-requires c κs = search needs
 
-enum-known-e : tie.Need-enum-known-e
-enum-known-e c = search needs
-
 returns-2 : tie.Need-returns-2
 returns-2 c =
     let n = c .before .before .before .before in
@@ -41,6 +38,9 @@ returns-2 c =
     let a = p .before .before .before .args in
     rw (c .u16-at .ensures, c .before .u32-at2 .ensures, c .before .before .u32-at .ensures)
     (tailed-value threadStorageRow (symbolName _) (threadStorageOf (a .kind)) _ 2 (p .before .if1 .left) (sym (ap partOf (n .name .given .1)) ∙ p .parse-symbol-name .ensures) ∙ thread-storage-row _ _ 2)
+
+enum-known-e : tie.Need-enum-known-e
+enum-known-e c = search needs
 
 returns-3 : tie.Need-returns-3
 returns-3 c =
@@ -58,6 +58,6 @@ parse-thread-storage-spec =
     u32-at-requires
     u32-at-requires-2
     u16-at-requires
-    enum-known-e
     returns-2
+    enum-known-e
     returns-3)

@@ -5,7 +5,6 @@ use mathlib.Core.Path.{ap, _∙_}
 use Rattle.symbol.specs.Decode.{layout}
 use Rattle.symbol.proofs.Decoding.{chosen}
 use Rattle.symbol_name.specs.Name.{namedBy}
-use Rattle.symbol_name.proofs.Nameless.{register-list-unnamed, compile-unnamed, inline-site-unnamed}
 use Rattle.symbol_name.proofs.Classes.{obj-name-name, register-variable-name, user-defined-type-name, data-name, public-name, procedure-name, thread-storage-name, using-namespace-name, procedure-reference-name, data-reference-name, annotation-reference-name, trampoline-name, export-name, local-name, build-info-name, label-name, block-name, register-relative-name, separated-code-name}
 use Rattle.symbol_name.proofs.name_by_kind.Statement.{statement}
 use Rattle.symbol_name.proofs.name_by_kind.Tie as tie
@@ -28,17 +27,7 @@ name-by-kind-spec =
     (λ c κs. search needs)
     (λ c. search needs)
     (λ c κs. search needs)
-    (λ c κs. search needs)
     (λ c. search needs)
-    (λ c κs. search needs)
-    (λ c. search needs)
-    (λ c κs. search needs)
-    (λ c. search needs)
-    (λ c κs. search needs)
-    (λ c. search needs)
-    (λ c κs. search needs)
-    (λ c. search needs)
-    (λ c κs. search needs)
     (λ c κs. search needs)
     (λ c. search needs)
     (λ c κs. search needs)
@@ -58,6 +47,13 @@ name-by-kind-spec =
     (λ c κs. search needs)
     (λ c. search needs)
     (λ c κs. search needs)
+    (λ c. search needs)
+    (λ c κs. search needs)
+    (λ c. search needs)
+    (λ c κs. search needs)
+    (λ c. search needs)
+    (λ c κs. search needs)
+    (λ c. search needs)
     (λ c κs. search needs)
     (λ c. search needs)
     (λ c. search needs)
@@ -77,12 +73,12 @@ name-by-kind-spec =
     (λ c. c .unnamed-behind .ensures ∙ register-variable-name _ _ ∙ ap namedBy (chosen _ _ (c .before .before .before .class-of .ensures) (c .before .enum-told4 .given .1)))
     (λ c. c .constant-name .ensures ∙ ap namedBy (chosen _ _ (c .before .before .before .class-of .ensures) (c .before .enum-told5 .given .1)))
     (λ c. c .named-behind2 .ensures ∙ user-defined-type-name _ _ ∙ ap namedBy (chosen _ _ (c .before .before .before .class-of .ensures) (c .before .enum-told6 .given .1)))
-    (λ c. c .unnamed .ensures ∙ register-list-unnamed _ _ (c .before .parse-multi-register-variable .ensures) ∙ ap namedBy (chosen _ _ (c .before .before .before .before .class-of .ensures) (c .before .before .enum-told7 .given .1)))
+    (λ c. c .register-list-name .ensures ∙ ap namedBy (chosen _ _ (c .before .before .before .class-of .ensures) (c .before .enum-told7 .given .1)))
     (λ c. c .named-behind3 .ensures ∙ data-name _ _ ∙ ap namedBy (chosen _ _ (c .before .before .before .class-of .ensures) (c .before .enum-told8 .given .1)))
     (λ c. c .named-behind4 .ensures ∙ public-name _ _ ∙ ap namedBy (chosen _ _ (c .before .before .before .class-of .ensures) (c .before .enum-told9 .given .1)))
     (λ c. c .named-behind5 .ensures ∙ procedure-name _ _ ∙ ap namedBy (chosen _ _ (c .before .before .before .class-of .ensures) (c .before .enum-told10 .given .1)))
     (λ c. c .named-behind6 .ensures ∙ thread-storage-name _ _ ∙ ap namedBy (chosen _ _ (c .before .before .before .class-of .ensures) (c .before .enum-told11 .given .1)))
-    (λ c. c .unnamed2 .ensures ∙ compile-unnamed _ _ (c .before .parse-compile-flags .ensures) ∙ ap namedBy (chosen _ _ (c .before .before .before .before .class-of .ensures) (c .before .before .enum-told12 .given .1)))
+    (λ c. c .compile-name .ensures ∙ ap namedBy (chosen _ _ (c .before .before .before .class-of .ensures) (c .before .enum-told12 .given .1)))
     (λ c. c .named-behind7 .ensures ∙ using-namespace-name _ _ ∙ ap namedBy (chosen _ _ (c .before .before .before .class-of .ensures) (c .before .enum-told13 .given .1)))
     (λ c. c .optional-behind .ensures ∙ procedure-reference-name _ _ ∙ ap namedBy (chosen _ _ (c .before .before .before .class-of .ensures) (c .before .enum-told14 .given .1)))
     (λ c. c .optional-behind2 .ensures ∙ data-reference-name _ _ ∙ ap namedBy (chosen _ _ (c .before .before .before .class-of .ensures) (c .before .enum-told15 .given .1)))
@@ -91,7 +87,7 @@ name-by-kind-spec =
     (λ c. c .named-behind9 .ensures ∙ export-name _ _ ∙ ap namedBy (chosen _ _ (c .before .before .before .class-of .ensures) (c .before .enum-told18 .given .1)))
     (λ c. c .named-behind10 .ensures ∙ local-name _ _ ∙ ap namedBy (chosen _ _ (c .before .before .before .class-of .ensures) (c .before .enum-told19 .given .1)))
     (λ c. c .nothing-behind2 .ensures ∙ build-info-name _ ∙ ap namedBy (chosen _ _ (c .before .before .before .class-of .ensures) (c .before .enum-told20 .given .1)))
-    (λ c. c .unnamed3 .ensures ∙ inline-site-unnamed _ _ (c .before .parse-inline-site .ensures) ∙ ap namedBy (chosen _ _ (c .before .before .before .before .class-of .ensures) (c .before .before .enum-told21 .given .1)))
+    (λ c. c .inline-site-name .ensures ∙ ap namedBy (chosen _ _ (c .before .before .before .class-of .ensures) (c .before .enum-told21 .given .1)))
     (λ c. ap namedBy (chosen _ _ (c .before .before .class-of .ensures) (c .enum-told22 .given .1)))
     (λ c. ap namedBy (chosen _ _ (c .before .before .class-of .ensures) (c .enum-told23 .given .1)))
     (λ c. c .named-behind11 .ensures ∙ label-name _ _ ∙ ap namedBy (chosen _ _ (c .before .before .before .class-of .ensures) (c .before .enum-told24 .given .1)))

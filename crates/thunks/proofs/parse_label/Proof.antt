@@ -32,15 +32,15 @@ u8-at-requires c κs = search needs
 from-bits-requires : tie.Need-from-bits-requires
 from-bits-requires c κs = search needs
 
-enum-known-e : tie.Need-enum-known-e
-enum-known-e c = search needs
-
 returns-2 : tie.Need-returns-2
 returns-2 c =
     let n = c .before .before .before .before .before in
     let p = n .before .before in
     rw (c .from-bits .ensures, c .before .u8-at .ensures, c .before .before .u16-at .ensures, c .before .before .before .u32-at .ensures)
     (tailed-value labelRow (symbolName _) labelOf _ 2 (p .before .if1 .left) (sym (ap partOf (n .name .given .1)) ∙ p .parse-symbol-name .ensures) ∙ label-row _ _ 2)
+
+enum-known-e : tie.Need-enum-known-e
+enum-known-e c = search needs
 
 returns-3 : tie.Need-returns-3
 returns-3 c =
@@ -58,6 +58,6 @@ parse-label-spec =
     u16-at-requires
     u8-at-requires
     from-bits-requires
-    enum-known-e
     returns-2
+    enum-known-e
     returns-3)

@@ -50,12 +50,6 @@ u16-at-requires c κs = search needs
 u16-at-requires-2 : tie.Need-u16-at-requires-2
 u16-at-requires-2 c κs = search needs
 
-enum-known-e : tie.Need-enum-known-e
-enum-known-e c = search needs
-
-enum-known-e-2 : tie.Need-enum-known-e-2
-enum-known-e-2 c = search needs
-
 returns-2 : tie.Need-returns-2
 returns-2 c =
     let a = c .before .before .before .before in
@@ -66,12 +60,18 @@ returns-2 c =
     rw (c .u16-at2 .ensures, c .before .u16-at .ensures, c .before .before .u32-at4 .ensures, c .before .before .before .index-of2 .ensures, a .u32-at3 .ensures, a .before .u32-at2 .ensures, a .before .before .index-of .ensures, a .before .before .before .u32-at .ensures)
     (thunk-value _ _ (p .before .if1 .left) (sym (ap partOf (n .name .given .1)) ∙ p .parse-symbol-name .ensures) (rw (k .before .u8-at .ensures) at (sym (ap thunkKindOf (v .variant .given .1)) ∙ k .parse-thunk-kind .ensures)))
 
+enum-known-e : tie.Need-enum-known-e
+enum-known-e c = search needs
+
 returns-3 : tie.Need-returns-3
 returns-3 c =
     let k = c .before .before .before in
     let n = k .before .before .before in
     let p = n .before .before in
     thunk-variant-refused _ _ (p .before .if1 .left) (sym (ap partOf (n .name .given .1)) ∙ p .parse-symbol-name .ensures) (rw (k .before .u8-at .ensures) at (sym (ap thunkKindOf (c .before .e .given .1)) ∙ k .parse-thunk-kind .ensures))
+
+enum-known-e-2 : tie.Need-enum-known-e-2
+enum-known-e-2 c = search needs
 
 returns-4 : tie.Need-returns-4
 returns-4 c =
@@ -96,8 +96,8 @@ parse-thunk-spec =
     u32-at-requires-4
     u16-at-requires
     u16-at-requires-2
-    enum-known-e
-    enum-known-e-2
     returns-2
+    enum-known-e
     returns-3
+    enum-known-e-2
     returns-4)

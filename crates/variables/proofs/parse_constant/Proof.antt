@@ -26,12 +26,6 @@ enum-known-name c = search needs
 u32-at-requires : tie.Need-u32-at-requires
 u32-at-requires c κs = search needs
 
-enum-known-e : tie.Need-enum-known-e
-enum-known-e c = search needs
-
-enum-known-e-2 : tie.Need-enum-known-e-2
-enum-known-e-2 c = search needs
-
 returns-2 : tie.Need-returns-2
 returns-2 c =
     let n = c .before .before in
@@ -41,12 +35,18 @@ returns-2 c =
     rw (c .u32-at .ensures)
     (constant-value _ _ (q .before .if1 .left) (sym (ap variantOf (v .value .given .1)) ∙ q .parse-variant .ensures) (sym (ap partOf (n .name .given .1)) ∙ p .parse-symbol-name .ensures))
 
+enum-known-e : tie.Need-enum-known-e
+enum-known-e c = search needs
+
 returns-3 : tie.Need-returns-3
 returns-3 c =
     let p = c .before .before .before in
     let v = p .before .before in
     let q = v .before .before in
     constant-unnamed _ _ (q .before .if1 .left) (sym (ap variantOf (v .value .given .1)) ∙ q .parse-variant .ensures) (sym (ap partOf (c .before .e .given .1)) ∙ p .parse-symbol-name .ensures)
+
+enum-known-e-2 : tie.Need-enum-known-e-2
+enum-known-e-2 c = search needs
 
 returns-4 : tie.Need-returns-4
 returns-4 c =
@@ -63,8 +63,8 @@ parse-constant-spec =
     parse-symbol-name-requires
     enum-known-name
     u32-at-requires
-    enum-known-e
-    enum-known-e-2
     returns-2
+    enum-known-e
     returns-3
+    enum-known-e-2
     returns-4)

@@ -26,15 +26,15 @@ u32-at-requires c κs = search needs
 u16-at-requires : tie.Need-u16-at-requires
 u16-at-requires c κs = search needs
 
-enum-known-e : tie.Need-enum-known-e
-enum-known-e c = search needs
-
 returns-2 : tie.Need-returns-2
 returns-2 c =
     let n = c .before .before .before in
     let p = n .before .before in
     rw (c .u16-at .ensures, c .before .u32-at .ensures)
     (tailed-value registerVariableRow (symbolName _) registerVariableOf _ 2 (p .before .if1 .left) (sym (ap partOf (n .name .given .1)) ∙ p .parse-symbol-name .ensures) ∙ register-variable-row _ _ 2)
+
+enum-known-e : tie.Need-enum-known-e
+enum-known-e c = search needs
 
 returns-3 : tie.Need-returns-3
 returns-3 c =
@@ -50,6 +50,6 @@ parse-register-variable-spec =
     enum-known-name
     u32-at-requires
     u16-at-requires
-    enum-known-e
     returns-2
+    enum-known-e
     returns-3)

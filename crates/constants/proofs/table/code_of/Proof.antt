@@ -1,10 +1,11 @@
 -- `constants::table::code_of` meets its contract.
 -- Assumes nothing.
-use native.Mathlib.Omega.{arith}
 use borrow.Author.Needs.{needs}
-use Rattle.constants.specs.Kind.{kinds, find}
-use Rattle.constants.specs.Table.{codeOf}
-use Rattle.constants.proofs.Codes.{codes, in-table, above}
+use Prim.Native.Nat.{_-_, _%_, _<_}
+use native.Mathlib.Omega.{arith}
+use native.Mathlib.Nat.{mod-lt}
+use lib.Dec.{lit<}
+use Rattle.constants.proofs.Codes.{in-table, above}
 use Rattle.constants.proofs.table.code_of.Statement.{statement}
 use Rattle.constants.proofs.table.code_of.Tie as tie
 
@@ -14,16 +15,23 @@ low-code-requires c κs = search needs
 returns : tie.Need-returns
 returns c = search needs
 
+row-requires : tie.Need-row-requires
+row-requires c κs = search needs
+
 cast-result : tie.Need-cast-result
-cast-result c = search needs
+cast-result c = let m : (c .before .before .before .args .kind - 0x1000) % 8 < 8 = mod-lt (c .before .before .before .args .kind - 0x1000) (lit< tt) in omega arith
 
-array-read-result : tie.Need-array-read-result
-array-read-result c = search needs
+mul-result : tie.Need-mul-result
+mul-result c = let m : (c .before .before .before .args .kind - 0x1000) % 8 < 8 = mod-lt (c .before .before .before .args .kind - 0x1000) (lit< tt) in omega arith
 
--- the test of the table: antt computes the codes of its kinds and compares them with its entries
+cast-result-2 : tie.Need-cast-result-2
+cast-result-2 c = let m : (c .before .before .before .args .kind - 0x1000) % 8 < 8 = mod-lt (c .before .before .before .args .kind - 0x1000) (lit< tt) in omega arith
+
+shr-result : tie.Need-shr-result
+shr-result c = let m : (c .before .before .before .args .kind - 0x1000) % 8 < 8 = mod-lt (c .before .before .before .args .kind - 0x1000) (lit< tt) in omega arith
+
 returns-2 : tie.Need-returns-2
-unfolding codes codeOf find kinds
-returns-2 c = in-table (c .before .before .args .kind) (omega arith) (omega arith)
+returns-2 c = rw (c .row .ensures) (in-table (c .before .before .before .args .kind) (omega arith) (omega arith))
 
 returns-3 : tie.Need-returns-3
 returns-3 c = above (c .before .before .args .kind) (omega arith)
@@ -31,4 +39,13 @@ returns-3 c = above (c .before .before .args .kind) (omega arith)
 pub code-of-spec : {M : Type 1} → statement M
 code-of-spec =
     tie.close
-    (tie.spec low-code-requires returns cast-result array-read-result returns-2 returns-3)
+    (tie.spec
+    low-code-requires
+    returns
+    row-requires
+    cast-result
+    mul-result
+    cast-result-2
+    shr-result
+    returns-2
+    returns-3)

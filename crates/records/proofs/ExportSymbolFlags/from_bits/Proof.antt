@@ -9,7 +9,14 @@ returns : tie.Need-returns
 unfolding exportFlags
 returns c =
     let x = c .args .x in
-    rw (masked 0 x, masked 1 x, masked 2 x, masked 3 x, masked 4 x, masked 5 x)
+    λ i. record {
+      constant = masked 0 x i;
+      «data» = masked 1 x i;
+      «private» = masked 2 x i;
+      «no_name» = masked 3 x i;
+      ordinal = masked 4 x i;
+      forwarder = masked 5 x i;
+    }
 
 pub from-bits-spec : {M : Type 1} → statement M
 from-bits-spec = tie.close (tie.spec returns)

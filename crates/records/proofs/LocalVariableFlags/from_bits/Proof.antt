@@ -9,7 +9,18 @@ returns : tie.Need-returns
 unfolding localFlags
 returns c =
     let x = c .args .x in
-    rw (masked 0 x, masked 1 x, masked 2 x, masked 3 x, masked 4 x, masked 5 x, masked 6 x, masked 7 x, masked 8 x, masked 9 x)
+    λ i. record {
+      isparam = masked 0 x i;
+      addrtaken = masked 1 x i;
+      compgenx = masked 2 x i;
+      isaggregate = masked 3 x i;
+      isaliased = masked 4 x i;
+      isalias = masked 5 x i;
+      isretvalue = masked 6 x i;
+      isoptimizedout = masked 7 x i;
+      «isenreg_glob» = masked 8 x i;
+      «isenreg_stat» = masked 9 x i;
+    }
 
 pub from-bits-spec : {M : Type 1} → statement M
 from-bits-spec = tie.close (tie.spec returns)

@@ -9,7 +9,16 @@ returns : tie.Need-returns
 unfolding procedureFlags
 returns c =
     let x = c .args .x in
-    rw (masked 0 x, masked 1 x, masked 2 x, masked 3 x, masked 4 x, masked 5 x, masked 6 x, masked 7 x)
+    λ i. record {
+      nofpo = masked 0 x i;
+      int = masked 1 x i;
+      far = masked 2 x i;
+      never = masked 3 x i;
+      notreached = masked 4 x i;
+      «cust_call» = masked 5 x i;
+      noinline = masked 6 x i;
+      optdbginfo = masked 7 x i;
+    }
 
 pub from-bits-spec : {M : Type 1} → statement M
 from-bits-spec = tie.close (tie.spec returns)

@@ -9,7 +9,12 @@ returns : tie.Need-returns
 unfolding publicFlags
 returns c =
     let x = c .args .x in
-    rw (masked 0 x, masked 1 x, masked 2 x, masked 3 x)
+    λ i. record {
+      code = masked 0 x i;
+      function = masked 1 x i;
+      managed = masked 2 x i;
+      msil = masked 3 x i;
+    }
 
 pub from-bits-spec : {M : Type 1} → statement M
 from-bits-spec = tie.close (tie.spec returns)

@@ -9,7 +9,10 @@ returns : tie.Need-returns
 unfolding separatedFlags
 returns c =
     let x = c .args .x in
-    rw (masked 0 x, masked 1 x)
+    λ i. record {
+      islexicalscope = masked 0 x i;
+      returnstoparent = masked 1 x i;
+    }
 
 pub from-bits-spec : {M : Type 1} → statement M
 from-bits-spec = tie.close (tie.spec returns)
