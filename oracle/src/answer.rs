@@ -7,8 +7,9 @@ use crate::common::*;
 use crate::list::Question;
 use crate::nesting;
 use crate::reading::{self, decode, symbols_from, Reading, Refusal};
+use crate::row::Answer;
 use crate::symbol::*;
-use crate::words::{class_and_fields, Answer, Words};
+use crate::words::{class_of, Words};
 
 macro_rules! ops {
     ($($op:ident $name:literal $number:literal;)+) => {
@@ -152,7 +153,7 @@ pub fn class(kind: u16) -> u64 {
     let mut record = [0; 64];
     record[..2].copy_from_slice(&kind.to_le_bytes());
     match SymbolData::try_from_ctx(&record, ()) {
-        Ok((symbol, _)) => class_and_fields(&symbol).0,
+        Ok((symbol, _)) => class_of(&symbol),
         Err(Error::UnimplementedSymbolKind(_)) => 0,
         Err(other) => panic!("kind {kind:#06x} has no body of zeros: {other}"),
     }
@@ -176,11 +177,10 @@ fn step(stream: &[u8], at: u64) -> Reply<'_> {
 
 fn fields(record: &[u8]) -> Reply<'_> {
     let (symbol, consumed) = decode(record)?;
-    let (class, fields) = class_and_fields(&symbol);
     Ok(Answer::new(record, consumed)
-        .put(class)
+        .put(class_of(&symbol))
         .put(consumed)
-        .put(fields))
+        .put(symbol))
 }
 
 fn name(record: &[u8]) -> Reply<'_> {

@@ -9,6 +9,7 @@ mod pdb;
 mod random;
 mod reading;
 mod records;
+mod row;
 mod scopes;
 mod steps;
 mod words;

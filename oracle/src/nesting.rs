@@ -4,7 +4,9 @@ use std::cmp::Ordering;
 
 use crate::common::*;
 use crate::reading::{decode, step, symbols_from, Reading, Refusal};
+use crate::row::Answer;
 use crate::symbol::*;
+use crate::words::Words;
 
 /// The most scopes that may be open, and the most links that a climb may have.
 pub const LIMIT: usize = 64;
@@ -31,11 +33,33 @@ pub struct Counts {
     pub deepest: usize,
 }
 
+impl Words for Counts {
+    fn write(&self, answer: &mut Answer) {
+        for group in [&self.yielded, &self.passed] {
+            group.records.write(answer);
+            group.bytes.write(answer);
+        }
+        self.openers.write(answer);
+        self.deepest.write(answer);
+    }
+}
+
 /// A chain, and how many records were read or links climbed for it.
 #[derive(Default)]
 pub struct Found {
     pub count: usize,
     pub chain: Vec<u64>,
+}
+
+/// The count, the depth, and every place of the chain, 0 where it is unused.
+impl Words for Found {
+    fn write(&self, answer: &mut Answer) {
+        let depth = self.chain.len();
+        self.count.write(answer);
+        depth.write(answer);
+        self.chain.iter().for_each(|&place| answer.push(place));
+        (depth..LIMIT).for_each(|_| answer.push(0));
+    }
 }
 
 struct Links {

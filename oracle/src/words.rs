@@ -1,27 +1,8 @@
-//! Values as the words of an answer: pdb's, and those of the check and the finders.
+//! pdb's values as the words of an answer; the module `row` says where the words go.
 
 use crate::common::*;
-use crate::nesting::{Counts, Found, Group, LIMIT};
+use crate::row::Answer;
 use crate::symbol::*;
-
-/// The words of an answer about some lent bytes, of which those before `next` were read.
-pub struct Answer<'b> {
-    pub bytes: &'b [u8],
-    pub next: usize,
-    pub words: Vec<u64>,
-}
-
-impl<'b> Answer<'b> {
-    pub fn new(bytes: &'b [u8], next: usize) -> Self {
-        let words = Vec::new();
-        Answer { bytes, next, words }
-    }
-
-    pub fn put(mut self, value: impl Words) -> Self {
-        value.write(&mut self);
-        self
-    }
-}
 
 pub trait Words {
     fn write(&self, answer: &mut Answer);
@@ -42,7 +23,7 @@ macro_rules! casts {
     ($($type:ty)+) => { $(
         impl Words for $type {
             fn write(&self, answer: &mut Answer) {
-                answer.words.push(*self as u64);
+                answer.push(*self as u64);
             }
         }
     )+ };
@@ -92,8 +73,6 @@ fields! {
     RegisterRelativeSymbol<'_> { offset type_index register name }
     ThunkSymbol<'_> { parent end next offset len kind name }
     SeparatedCodeSymbol { parent end len flags offset parent_offset }
-    Group { records bytes }
-    Counts { yielded passed openers deepest }
 }
 
 /// A bit for each flag, the lowest first.
@@ -106,7 +85,7 @@ macro_rules! flags {
     ($($type:ty: $($flag:ident)+;)+) => { $(
         impl Words for $type {
             fn write(&self, answer: &mut Answer) {
-                answer.words.push(bits(&[$(self.$flag),+]));
+                answer.push(bits(&[$(self.$flag),+]));
             }
         }
     )+ };
@@ -167,7 +146,7 @@ macro_rules! options {
                 self.is_some().write(answer);
                 match self {
                     Some(value) => value.write(answer),
-                    None => answer.words.extend([0; $words]),
+                    None => (0..$words).for_each(|_| answer.push(0)),
                 }
             }
         }
@@ -183,18 +162,18 @@ options! {
 
 impl Words for Variant {
     fn write(&self, answer: &mut Answer) {
-        let (tag, value): (u64, &dyn Words) = match self {
-            Variant::U8(value) => (0, value),
-            Variant::U16(value) => (1, value),
-            Variant::U32(value) => (2, value),
+        let (tag, value) = match *self {
+            Variant::U8(value) => (0, value.into()),
+            Variant::U16(value) => (1, value.into()),
+            Variant::U32(value) => (2, value.into()),
             Variant::U64(value) => (3, value),
-            Variant::I8(value) => (4, value),
-            Variant::I16(value) => (5, value),
-            Variant::I32(value) => (6, value),
-            Variant::I64(value) => (7, value),
+            Variant::I8(value) => (4, value as u64),
+            Variant::I16(value) => (5, value as u64),
+            Variant::I32(value) => (6, value as u64),
+            Variant::I64(value) => (7, value as u64),
         };
-        tag.write(answer);
-        value.write(answer);
+        answer.push(tag);
+        answer.push(value);
     }
 }
 
@@ -208,10 +187,11 @@ impl Words for ThunkKind<'_> {
             ThunkKind::Load => (4, 0),
             ThunkKind::Unknown(code) => (5, code.into()),
         };
-        answer.words.extend([variant, number.into()]);
+        answer.push(variant);
+        answer.push(number.into());
         match self {
             ThunkKind::Adjustor(adjustor) => adjustor.target().write(answer),
-            _ => answer.words.extend([0, 0]),
+            _ => (0..2).for_each(|_| answer.push(0)),
         }
     }
 }
@@ -227,37 +207,54 @@ impl Words for MultiRegisterVariableSymbol<'_> {
     }
 }
 
-/// A record's class: 1 and the place of its variant in pdb's enum; and what the variant holds.
-pub fn class_and_fields<'a>(symbol: &'a SymbolData) -> (u64, &'a dyn Words) {
-    match symbol {
-        SymbolData::ScopeEnd => (1, &()),
-        SymbolData::ObjName(fields) => (2, fields),
-        SymbolData::RegisterVariable(fields) => (3, fields),
-        SymbolData::Constant(fields) => (4, fields),
-        SymbolData::UserDefinedType(fields) => (5, fields),
-        SymbolData::MultiRegisterVariable(fields) => (6, fields),
-        SymbolData::Data(fields) => (7, fields),
-        SymbolData::Public(fields) => (8, fields),
-        SymbolData::Procedure(fields) => (9, fields),
-        SymbolData::ThreadStorage(fields) => (10, fields),
-        SymbolData::CompileFlags(fields) => (11, fields),
-        SymbolData::UsingNamespace(fields) => (12, fields),
-        SymbolData::ProcedureReference(fields) => (13, fields),
-        SymbolData::DataReference(fields) => (14, fields),
-        SymbolData::AnnotationReference(fields) => (15, fields),
-        SymbolData::Trampoline(fields) => (16, fields),
-        SymbolData::Export(fields) => (17, fields),
-        SymbolData::Local(fields) => (18, fields),
-        SymbolData::BuildInfo(fields) => (19, fields),
-        SymbolData::InlineSite(fields) => (20, fields),
-        SymbolData::InlineSiteEnd => (21, &()),
-        SymbolData::ProcedureEnd => (22, &()),
-        SymbolData::Label(fields) => (23, fields),
-        SymbolData::Block(fields) => (24, fields),
-        SymbolData::RegisterRelative(fields) => (25, fields),
-        SymbolData::Thunk(fields) => (26, fields),
-        SymbolData::SeparatedCode(fields) => (27, fields),
-    }
+macro_rules! classes {
+    ($($number:literal $variant:ident $(($fields:ident))?;)+) => {
+        /// A record's class: 1 and the place of its variant in pdb's enum.
+        pub fn class_of(symbol: &SymbolData) -> u64 {
+            match symbol {
+                $(SymbolData::$variant { .. } => $number,)+
+            }
+        }
+
+        /// What the variant holds.
+        impl Words for SymbolData<'_> {
+            fn write(&self, answer: &mut Answer) {
+                match self {
+                    $(SymbolData::$variant $(($fields))? => { $($fields.write(answer);)? })+
+                }
+            }
+        }
+    };
+}
+
+classes! {
+    1 ScopeEnd;
+    2 ObjName(fields);
+    3 RegisterVariable(fields);
+    4 Constant(fields);
+    5 UserDefinedType(fields);
+    6 MultiRegisterVariable(fields);
+    7 Data(fields);
+    8 Public(fields);
+    9 Procedure(fields);
+    10 ThreadStorage(fields);
+    11 CompileFlags(fields);
+    12 UsingNamespace(fields);
+    13 ProcedureReference(fields);
+    14 DataReference(fields);
+    15 AnnotationReference(fields);
+    16 Trampoline(fields);
+    17 Export(fields);
+    18 Local(fields);
+    19 BuildInfo(fields);
+    20 InlineSite(fields);
+    21 InlineSiteEnd;
+    22 ProcedureEnd;
+    23 Label(fields);
+    24 Block(fields);
+    25 RegisterRelative(fields);
+    26 Thunk(fields);
+    27 SeparatedCode(fields);
 }
 
 /// An instruction's number and its operands, 0 for an absent second.
@@ -282,16 +279,5 @@ impl Words for BinaryAnnotation {
         number.write(answer);
         first.write(answer);
         second.write(answer);
-    }
-}
-
-/// The count, the depth, and every place of the chain, 0 where it is unused.
-impl Words for Found {
-    fn write(&self, answer: &mut Answer) {
-        let depth = self.chain.len();
-        self.count.write(answer);
-        depth.write(answer);
-        answer.words.extend(&self.chain);
-        answer.words.extend(vec![0; LIMIT - depth]);
     }
 }

@@ -3,7 +3,7 @@
 use Prim.Native.Nat.{ℕ, _+_, _≤_, _<_}
 use mathlib.Core.Path.{_≡_, refl, ap, _∙_, sym}
 use mathlib.Core.List.{List}
-use mathlib.Core.Bool.{Bool, true, false}
+use mathlib.Core.Bool.{Bool, true, false, cond}
 use native.Mathlib.Omega.{arith}
 use borrow.Author.Tests.{lt-ltb, le-ltb, le-leb, lt-leb, leb-true}
 use lib.ListN.{length}
@@ -16,8 +16,11 @@ use Rattle.registers.specs.declared.RegisterEntry.{RegisterEntry}
 use Rattle.common.specs.declared.Refusal.{Refusal}
 use Rattle.records.specs.declared.SymbolData.{SymbolData}
 use Rattle.kind.specs.Raw.{rawKind}
+use Rattle.records.specs.declared.OptionPart.{OptionPart}
 use Rattle.symbol.specs.Decode.{decode}
-use Rattle.register_entry.specs.Entry.{isList, countedEntry, listEntry, registerEntry}
+use Rattle.symbol_name.specs.Name.{namedBy, nameOf}
+use Rattle.symbol_name.specs.declared.Named.the-variants as N
+use Rattle.register_entry.specs.Entry.{isList, countedEntry, listEntry, entryIn, registerEntry}
 
 -- k is below the count, or not
 pub counted-below : (kind count k : ℕ) (s : List ℕ) (at : ℕ) → k < count → entryAt kind k s at ≡ countedEntry kind count k s at
@@ -48,17 +51,31 @@ module _ (kind w k : ℕ) (is : registerCount kind ≡ uint w) (s : List ℕ) wh
       go true e = sym (behind-type (leb-true 6 (length s) e) ∙ then-refused (uint w) (λ count. countedEntry kind count k) s 6 (uint-short w s 6 (lt-leb (6 + w) (length s) h)))
       go false e = sym (then-refused (uint 4) (λ t. registerCount kind >>= λ count. countedEntry kind count k) s 2 (uint-short 4 s 2 e))
 
--- a record that decode answers, of a kind of lists or of another
-module _ (s : List ℕ) (k : ℕ) {d : SymbolData} {to kind : ℕ} {b : Bool} {r : Read RegisterEntry}
-    (e : value d to ≡ decode s) (q : kind ≡ rawKind s) (is : b ≡ isList kind) where
-  pub of-list : b ≡ true → r ≡ listEntry kind k s 2 → r ≡ registerEntry s k
-  unfolding registerEntry
-  of-list t l = l ∙ rw q (let f : isList (rawKind s) ≡ true = rw (← q) (sym is ∙ t) in rw (← e, f))
+-- the entry, where the record is of a kind of lists or of another
+abbrev chosen : List ℕ → ℕ → Bool → Read RegisterEntry
+chosen s k c = cond c (listEntry (rawKind s) k s 2) (refused (refusal 14 0 0))
 
-  pub of-no-list : b ≡ false → r ≡ refused (refusal 14 0 0) → r ≡ registerEntry s k
-  unfolding registerEntry
-  of-no-list t l = l ∙ (let f : isList (rawKind s) ≡ false = rw (← q) (sym is ∙ t) in rw (← e, f))
+-- a record that name answers, as decode does
+module _ (s : List ℕ) (k : ℕ) {o : OptionPart} {kind : ℕ} {b : Bool}
+    (e : nameOf s ≡ N.Answer o) (q : kind ≡ rawKind s) (is : b ≡ isList kind) where
+  answered : (c : Bool) → b ≡ c → chosen s k c ≡ registerEntry s k
+  unfolding registerEntry nameOf
+  answered c t = ap (chosen s k) (sym t ∙ is ∙ ap isList q) ∙ by (decode s) e
+    where
+      by : (x : Read SymbolData) → namedBy x ≡ N.Answer o → chosen s k (isList (rawKind s)) ≡ entryIn s k x
+      by (value d to) n = refl
+      by (refused y) n = absurd (let z : _≡_ {A = ℕ} 0 1 = cc in omega arith)
 
-pub of-refused : (s : List ℕ) (k : ℕ) {x : Refusal} → refused x ≡ decode s → refused x ≡ registerEntry s k
-unfolding registerEntry
-of-refused s k e = rw (← e)
+  pub of-list : {r : Read RegisterEntry} → b ≡ true → r ≡ listEntry kind k s 2 → r ≡ registerEntry s k
+  of-list t l = l ∙ ap (λ (x : ℕ). listEntry x k s 2) q ∙ answered true t
+
+  pub of-no-list : {r : Read RegisterEntry} → b ≡ false → r ≡ refused (refusal 14 0 0) → r ≡ registerEntry s k
+  of-no-list t l = l ∙ answered false t
+
+pub of-refused : (s : List ℕ) (k : ℕ) {x : Refusal} → nameOf s ≡ N.Refused x → refused x ≡ registerEntry s k
+unfolding registerEntry nameOf
+of-refused s k {x} e = by (decode s) e
+  where
+    by : (y : Read SymbolData) → namedBy y ≡ N.Refused x → refused x ≡ entryIn s k y
+    by (value d to) n = absurd (let z : _≡_ {A = ℕ} 0 1 = cc in omega arith)
+    by (refused y) n = let f : x ≡ y = cc in ap refused f

@@ -6,8 +6,8 @@ ghost use Rattle.common.specs.Reader.{refused, refusal};
 use common::Refusal;
 use constants::S_MANYREG2;
 use constants::S_MANYREG2_ST;
-use records::Decoded;
 use registers::ParsedEntry;
+use symbol_name::Named;
 
 fn nothing_there() -> ParsedEntry
     ensures { λ r. ⌜ entryOf r ≡ refused (refusal 14 0 0) ⌝ }
@@ -53,11 +53,12 @@ fn list_entry(s: &[u8], kind: u16, k: usize) -> ParsedEntry
     }
 }
 
+// Name has decode's refusals, and builds no typed record.
 pub fn register_entry(s: &[u8], k: usize) -> ParsedEntry
     ensures { λ r. ⌜ entryOf r ≡ registerEntry (now (s .entry)) k ⌝ }
 {
-    match symbol::decode(s) {
-        Decoded::Record(_, _) => {
+    match symbol_name::name(s) {
+        Named::Answer(_) => {
             let kind = kind::raw_kind(s);
             if is_list(kind) {
                 list_entry(s, kind, k)
@@ -65,6 +66,6 @@ pub fn register_entry(s: &[u8], k: usize) -> ParsedEntry
                 nothing_there()
             }
         }
-        Decoded::Refused(e) => ParsedEntry::Refused(e),
+        Named::Refused(e) => ParsedEntry::Refused(e),
     }
 }

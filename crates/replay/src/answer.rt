@@ -1,7 +1,7 @@
-// Our answers, as the words that the oracle writes: the number of the refusal, or 0 and the values.
-use answer_words::Words;
-use chain::Chain;
-use check_nesting::Checked;
+// Our answers. Records, streams and their scopes are asked through the functions that C calls.
+use crate::reply::FREE;
+use crate::reply::Words;
+use crate::reply::words_of;
 use common::ParsedI16;
 use common::ParsedI32;
 use common::ParsedI64;
@@ -9,32 +9,39 @@ use common::ParsedU8;
 use common::ParsedU16;
 use common::ParsedU32;
 use common::ParsedU64;
-use iter::Next;
+use common::Refusal;
 use names::ParsedPart;
-use records::Decoded;
-use registers::ParsedEntry;
-use symbol_name::Named;
 use variant::ParsedVariant;
-use walk::Finding;
-use walk::Outcome;
+use variant::Variant;
+
+fn refused(e: Refusal) -> Words {
+    let out = [e.position as u64, e.detail as u64];
+    words_of(e.number as u32, &out)
+}
+
+// A value and the position after it.
+fn value(x: u64, next: usize) -> Words {
+    let out = [x, next as u64];
+    words_of(0, &out)
+}
 
 fn unsigned(op: u64, s: &[u8], at: usize) -> Words {
     match op {
         1 => match common::parse_u8(s, at) {
-            ParsedU8::Value(x, next) => Words::new().push(x as u64).push(next as u64),
-            ParsedU8::Refused(e) => Words::refused(e),
+            ParsedU8::Value(x, next) => value(x as u64, next),
+            ParsedU8::Refused(e) => refused(e),
         },
         2 => match common::parse_u16(s, at) {
-            ParsedU16::Value(x, next) => Words::new().push(x as u64).push(next as u64),
-            ParsedU16::Refused(e) => Words::refused(e),
+            ParsedU16::Value(x, next) => value(x as u64, next),
+            ParsedU16::Refused(e) => refused(e),
         },
         3 => match common::parse_u32(s, at) {
-            ParsedU32::Value(x, next) => Words::new().push(x as u64).push(next as u64),
-            ParsedU32::Refused(e) => Words::refused(e),
+            ParsedU32::Value(x, next) => value(x as u64, next),
+            ParsedU32::Refused(e) => refused(e),
         },
         _ => match common::parse_u64(s, at) {
-            ParsedU64::Value(x, next) => Words::new().push(x).push(next as u64),
-            ParsedU64::Refused(e) => Words::refused(e),
+            ParsedU64::Value(x, next) => value(x, next),
+            ParsedU64::Refused(e) => refused(e),
         },
     }
 }
@@ -42,16 +49,16 @@ fn unsigned(op: u64, s: &[u8], at: usize) -> Words {
 fn signed(op: u64, s: &[u8], at: usize) -> Words {
     match op {
         5 => match common::parse_i16(s, at) {
-            ParsedI16::Value(x, next) => Words::new().push(words::i16_word(x)).push(next as u64),
-            ParsedI16::Refused(e) => Words::refused(e),
+            ParsedI16::Value(x, next) => value(words::i16_word(x), next),
+            ParsedI16::Refused(e) => refused(e),
         },
         6 => match common::parse_i32(s, at) {
-            ParsedI32::Value(x, next) => Words::new().push(words::i32_word(x)).push(next as u64),
-            ParsedI32::Refused(e) => Words::refused(e),
+            ParsedI32::Value(x, next) => value(words::i32_word(x), next),
+            ParsedI32::Refused(e) => refused(e),
         },
         _ => match common::parse_i64(s, at) {
-            ParsedI64::Value(x, next) => Words::new().push(words::i64_word(x)).push(next as u64),
-            ParsedI64::Refused(e) => Words::refused(e),
+            ParsedI64::Value(x, next) => value(words::i64_word(x), next),
+            ParsedI64::Refused(e) => refused(e),
         },
     }
 }
@@ -59,125 +66,109 @@ fn signed(op: u64, s: &[u8], at: usize) -> Words {
 fn name(answered: ParsedPart) -> Words {
     match answered {
         ParsedPart::Value(p, next) => {
-            Words::new()
-                .push(p.start as u64)
-                .push(p.len as u64)
-                .push(next as u64)
+            let out = [p.start as u64, p.len as u64, next as u64];
+            words_of(0, &out)
         }
-        ParsedPart::Refused(e) => Words::refused(e),
+        ParsedPart::Refused(e) => refused(e),
     }
+}
+
+// The variant's place in the Rust's enum, its value, and the position after it.
+fn tagged(tag: u64, x: u64, next: usize) -> Words {
+    let out = [tag, x, next as u64];
+    words_of(0, &out)
 }
 
 fn numeric(s: &[u8], at: usize) -> Words {
     match variant::parse_variant(s, at) {
-        ParsedVariant::Value(v, next) => answer_words::with_variant(Words::new(), v).push(
-            next as u64,
-        ),
-        ParsedVariant::Refused(e) => Words::refused(e),
+        ParsedVariant::Value(v, next) => match v {
+            Variant::U8(x) => tagged(0, x as u64, next),
+            Variant::U16(x) => tagged(1, x as u64, next),
+            Variant::U32(x) => tagged(2, x as u64, next),
+            Variant::U64(x) => tagged(3, x, next),
+            Variant::I16(x) => tagged(5, words::i16_word(x), next),
+            Variant::I32(x) => tagged(6, words::i32_word(x), next),
+            Variant::I64(x) => tagged(7, words::i64_word(x), next),
+        },
+        ParsedVariant::Refused(e) => refused(e),
     }
 }
 
 fn kind(k: u16) -> Words {
-    Words::new()
-        .push(constants::class_number(constants::class_of(k)) as u64)
-        .push(words::truth(constants::starts_scope(k)))
-        .push(words::truth(constants::ends_scope(k)))
+    let class = constants::class_number(constants::class_of(k)) as u64;
+    let opener = words::truth(constants::starts_scope(k));
+    let closer = words::truth(constants::ends_scope(k));
+    let out = [class, opener, closer];
+    words_of(0, &out)
 }
 
-fn decode(s: &[u8]) -> Words {
-    match symbol::decode(s) {
-        Decoded::Record(d, consumed) => answer_words::record(d, consumed),
-        Decoded::Refused(e) => Words::refused(e),
-    }
+fn code(x: u64) -> Words {
+    let out = [x];
+    words_of(0, &out)
 }
 
-fn name_of(s: &[u8]) -> Words {
-    match symbol_name::name(s) {
-        Named::Answer(has) => Words::new().option_part(has),
-        Named::Refused(e) => Words::refused(e),
-    }
+// The words of a call that was lent so many. (A callee that takes the array knows its length.)
+fn words3(number: u32, out: &[u64; 3]) -> Words {
+    words_of(number, out)
 }
 
-fn register(s: &[u8], k: usize) -> Words {
-    match register_entry::register_entry(s, k) {
-        ParsedEntry::Value(entry, _) => {
-            let name = entry.name;
-            Words::new().push(entry.register as u64).part(name)
-        }
-        ParsedEntry::Refused(e) => Words::refused(e),
-    }
+fn words5(number: u32, out: &[u64; 5]) -> Words {
+    words_of(number, out)
 }
 
-fn scope(s: &[u8]) -> Words {
-    Words::new()
-        .push(kind::raw_kind(s) as u64)
-        .push(words::truth(kind::starts_scope(s)))
-        .push(words::truth(kind::ends_scope(s)))
+fn words6(number: u32, out: &[u64; 6]) -> Words {
+    words_of(number, out)
+}
+
+fn words24(number: u32, out: &[u64; 24]) -> Words {
+    words_of(number, out)
+}
+
+fn words66(number: u32, out: &[u64; 66]) -> Words {
+    words_of(number, out)
 }
 
 fn step(s: &[u8], at: usize) -> Words {
-    match iter::step(s, at) {
-        Next::End(position) => Words::new().push(0).push(position as u64),
-        Next::Refused(e) => Words::refused(e),
-        Next::Record {
-            index,
-            start,
-            len,
-            next,
-        } => Words::new()
-            .push(1)
-            .push(index as u64)
-            .push(start as u64)
-            .push(len as u64)
-            .push(next as u64),
-    }
+    let mut out = [FREE; 5];
+    let number = mitrelilac::mitrelilac_step(s, at, &mut out);
+    words5(number, &out)
+}
+
+fn decode(s: &[u8]) -> Words {
+    let mut out = [FREE; 24];
+    let number = mitrelilac::mitrelilac_decode(s, &mut out);
+    words24(number, &out)
+}
+
+// Of a record: its name (34), an entry of its list (35), or its kind.
+fn about_record(op: u64, s: &[u8], k: usize) -> Words {
+    let mut out = [FREE; 3];
+    let number = match op {
+        34 => mitrelilac::mitrelilac_name(s, &mut out),
+        35 => mitrelilac::mitrelilac_register_entry(s, k, &mut out),
+        _ => mitrelilac::mitrelilac_kind(s, &mut out),
+    };
+    words3(number, &out)
 }
 
 fn check(s: &[u8], start: usize) -> Words {
-    match check_nesting::check(s, start) {
-        Checked::Good(n) => Words::new()
-            .push(n.records as u64)
-            .push(n.bytes as u64)
-            .push(n.passed as u64)
-            .push(n.skipped as u64)
-            .push(n.openers as u64)
-            .push(n.deepest as u64),
-        Checked::Refused(e) => Words::refused(e),
-    }
+    let mut out = [FREE; 6];
+    let number = mitrelilac::mitrelilac_check(s, start, &mut out);
+    words6(number, &out)
 }
 
-// The number of records read or links climbed, and the depth and every place of the chain.
-fn found(count: usize, chain: Chain) -> Words {
-    let mut w = Words::new().push(count as u64).push(chain.depth as u64);
-    let mut k: usize = 0;
-    while k < 64 {
-        w = w.push(chain.at[k] as u64);
-        k += 1;
-    }
-    w
+// The enclosing scopes, by walking (41), jumping (42) or climbing.
+fn scopes(op: u64, s: &[u8], start: usize, i: usize) -> Words {
+    let mut out = [FREE; 66];
+    let number = match op {
+        41 => mitrelilac::mitrelilac_walk(s, start, i, &mut out),
+        42 => mitrelilac::mitrelilac_jump(s, start, i, &mut out),
+        _ => mitrelilac::mitrelilac_climb(s, i, &mut out),
+    };
+    words66(number, &out)
 }
 
-fn outcome(out: Outcome, count: usize, chain: Chain) -> Words {
-    match out {
-        Outcome::Answer => found(count, chain),
-        Outcome::Refused(e) => Words::refused(e),
-    }
-}
-
-fn finding(f: Finding) -> Words {
-    let out = f.out;
-    let chain = f.chain;
-    outcome(out, f.read, chain)
-}
-
-fn climb(s: &[u8], i: usize) -> Words {
-    let a = climb::climb(s, i);
-    let out = a.out;
-    let chain = a.chain;
-    outcome(out, a.links, chain)
-}
-
-// An operation that we do not have is answered by a lone 0, which no answer of the oracle is.
+// An operation that we do not have is answered by a number that no refusal has.
 pub fn answer(op: u64, arg: u64, start: u64, s: &[u8]) -> Words {
     let at = arg as usize;
     let from = start as usize;
@@ -188,17 +179,13 @@ pub fn answer(op: u64, arg: u64, start: u64, s: &[u8]) -> Words {
         9 => name(names::parse_u8_pascal_string(s, at)),
         10 => numeric(s, at),
         16 => kind((arg % 0x10000) as u16),
-        17 => Words::new().push(constants::cpu_type((arg % 0x10000) as u16) as u64),
-        18 => Words::new().push(constants::source_language((arg % 0x100) as u8) as u64),
+        17 => code(constants::cpu_type((arg % 0x10000) as u16) as u64),
+        18 => code(constants::source_language((arg % 0x100) as u8) as u64),
         32 => step(s, at),
         33 => decode(s),
-        34 => name_of(s),
-        35 => register(s, at),
-        36 => scope(s),
+        34..=36 => about_record(op, s, at),
         40 => check(s, from),
-        41 => finding(walk::walk(s, from, at)),
-        42 => finding(jump::jump(s, from, at)),
-        43 => climb(s, at),
-        _ => Words::new(),
+        41..=43 => scopes(op, s, from, at),
+        _ => words_of(u32::MAX, &[0]),
     }
 }

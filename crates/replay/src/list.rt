@@ -1,5 +1,6 @@
 // The list: blocks of cases, filled up with zeros, each case an operation, its argument and start, the bytes it is asked about and the oracle's answer in words.
-use answer_words::Words;
+use crate::reply::FREE;
+use crate::reply::Words;
 
 // How many cases were replayed and how many of our answers differ; the first that does, counted from 1; whether the list is over.
 pub struct Tally {
@@ -62,21 +63,22 @@ fn number_at(s: &[u8], at: usize) -> Number {
     Number { value, next }
 }
 
-// Whether the words of an answer are those of the list, and the position after them.
+// Whether an answer is that of the list, and the position after it.
 pub struct Compared {
     pub same: bool,
     pub next: usize,
 }
 
+// The words must be those of the list, and the places behind them as they were before the call.
 fn compare(s: &[u8], at: usize, count: u64, words: Words) -> Compared {
-    let mut same = count == words.len as u64;
+    let mut same = count <= 68;
     let mut next = at;
     let mut i: usize = 0;
-    while i < 72 {
-        if count <= i as u64 {
-            return Compared { same, next };
+    while i < 68 {
+        let mut expected = Number { value: FREE, next };
+        if (i as u64) < count {
+            expected = number_at(s, next);
         }
-        let expected = number_at(s, next);
         if words.at[i] != expected.value {
             same = false;
         }

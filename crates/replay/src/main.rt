@@ -6,6 +6,7 @@ ghost use lib.ListN.{length};
 
 mod answer;
 mod list;
+mod reply;
 
 use list::Tally;
 

@@ -1,4 +1,4 @@
--- `replay::list::compare` meets its contract. The measure is the number of words that are left.
+-- `replay::list::compare` meets its contract. The measure is the number of places that are left.
 -- Assumes nothing.
 use borrow.Author.Needs.{needs}
 use Prim.Native.Nat.{_-_}
@@ -9,13 +9,10 @@ abbrev Inv-loop : tie.InvT-loop
 Inv-loop s at count words same₀ next₀ i₀ same next i = Unit {0}
 
 abbrev μ-loop : tie.MeasureT-loop
-μ-loop s at count words same₀ next₀ i₀ same next i = 72 - i
+μ-loop s at count words same₀ next₀ i₀ same next i = 68 - i
 
 loop-holds : tie.Need-loop-holds Inv-loop μ-loop
 loop-holds c = search needs
-
-returns : tie.Need-returns Inv-loop μ-loop
-returns c = search needs
 
 number-at-requires : tie.Need-number-at-requires Inv-loop μ-loop
 number-at-requires c κs = search needs
@@ -35,8 +32,8 @@ loop-less c = search needs
 loop-again : tie.Need-loop-again Inv-loop μ-loop
 loop-again c = search needs
 
-returns-2 : tie.Need-returns-2 Inv-loop μ-loop
-returns-2 c = search needs
+returns : tie.Need-returns Inv-loop μ-loop
+returns c = search needs
 
 pub compare-spec : {M : Type 1} → statement M
 compare-spec =
@@ -45,11 +42,10 @@ compare-spec =
     Inv-loop
     μ-loop
     loop-holds
-    returns
     number-at-requires
     mul-if2
     element-copy-out-if2
     add-i
     loop-less
     loop-again
-    returns-2)
+    returns)

@@ -1,0 +1,130 @@
+-- `code_words::procedure` meets its contract.
+-- Assumes nothing.
+use borrow.Author.Needs.{needs}
+use mathlib.Core.Path.{refl}
+use Rattle.code_words.proofs.procedure.Statement.{statement}
+use Rattle.code_words.proofs.procedure.Tie as tie
+
+truth-requires : tie.Need-truth-requires
+truth-requires c κs = search needs
+
+element-write-out : tie.Need-element-write-out
+element-write-out c = search needs
+
+truth-requires-2 : tie.Need-truth-requires-2
+truth-requires-2 c κs = search needs
+
+element-write-out-2 : tie.Need-element-write-out-2
+element-write-out-2 c = search needs
+
+or-zero32-requires : tie.Need-or-zero32-requires
+or-zero32-requires c κs = search needs
+
+element-write-out-3 : tie.Need-element-write-out-3
+element-write-out-3 c = search needs
+
+cast-out : tie.Need-cast-out
+cast-out c = search needs
+
+element-write-out-4 : tie.Need-element-write-out-4
+element-write-out-4 c = search needs
+
+or-zero32-requires-2 : tie.Need-or-zero32-requires-2
+or-zero32-requires-2 c κs = search needs
+
+element-write-out-5 : tie.Need-element-write-out-5
+element-write-out-5 c = search needs
+
+cast-out-2 : tie.Need-cast-out-2
+cast-out-2 c = search needs
+
+element-write-out-6 : tie.Need-element-write-out-6
+element-write-out-6 c = search needs
+
+cast-out-3 : tie.Need-cast-out-3
+cast-out-3 c = search needs
+
+element-write-out-7 : tie.Need-element-write-out-7
+element-write-out-7 c = search needs
+
+cast-out-4 : tie.Need-cast-out-4
+cast-out-4 c = search needs
+
+element-write-out-8 : tie.Need-element-write-out-8
+element-write-out-8 c = search needs
+
+cast-out-5 : tie.Need-cast-out-5
+cast-out-5 c = search needs
+
+element-write-out-9 : tie.Need-element-write-out-9
+element-write-out-9 c = search needs
+
+cast-out-6 : tie.Need-cast-out-6
+cast-out-6 c = search needs
+
+element-write-out-10 : tie.Need-element-write-out-10
+element-write-out-10 c = search needs
+
+cast-out-7 : tie.Need-cast-out-7
+cast-out-7 c = search needs
+
+element-write-out-11 : tie.Need-element-write-out-11
+element-write-out-11 c = search needs
+
+procedure-bits-requires : tie.Need-procedure-bits-requires
+procedure-bits-requires c κs = search needs
+
+element-write-out-12 : tie.Need-element-write-out-12
+element-write-out-12 c = search needs
+
+element-write-out-13 : tie.Need-element-write-out-13
+element-write-out-13 c = search needs
+
+element-write-out-14 : tie.Need-element-write-out-14
+element-write-out-14 c = search needs
+
+returns : tie.Need-returns
+returns c =
+    record {
+      class = refl;
+      stores =
+          rw (
+            c .before .before .before .before .before .before .before .before .before .before .before .truth .ensures,
+            c .before .before .before .before .before .before .before .before .before .before .truth2 .ensures,
+            c .before .before .before .before .before .before .before .before .before .or-zero32 .ensures,
+            c .before .before .before .before .before .before .before .or-zero322 .ensures,
+            c .procedure-bits .ensures,
+          );
+    }
+
+pub procedure-spec : {M : Type 1} → statement M
+procedure-spec =
+    tie.close
+    (tie.spec
+    truth-requires
+    element-write-out
+    truth-requires-2
+    element-write-out-2
+    or-zero32-requires
+    element-write-out-3
+    cast-out
+    element-write-out-4
+    or-zero32-requires-2
+    element-write-out-5
+    cast-out-2
+    element-write-out-6
+    cast-out-3
+    element-write-out-7
+    cast-out-4
+    element-write-out-8
+    cast-out-5
+    element-write-out-9
+    cast-out-6
+    element-write-out-10
+    cast-out-7
+    element-write-out-11
+    procedure-bits-requires
+    element-write-out-12
+    element-write-out-13
+    element-write-out-14
+    returns)

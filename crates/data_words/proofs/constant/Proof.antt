@@ -1,0 +1,64 @@
+-- `data_words::constant` meets its contract.
+-- Assumes nothing.
+use borrow.Author.Needs.{needs}
+use mathlib.Core.Path.{refl}
+use Rattle.data_words.proofs.constant.Statement.{statement}
+use Rattle.data_words.proofs.constant.Tie as tie
+
+truth-requires : tie.Need-truth-requires
+truth-requires c κs = search needs
+
+element-write-out : tie.Need-element-write-out
+element-write-out c = search needs
+
+cast-out : tie.Need-cast-out
+cast-out c = search needs
+
+element-write-out-2 : tie.Need-element-write-out-2
+element-write-out-2 c = search needs
+
+variant-number-requires : tie.Need-variant-number-requires
+variant-number-requires c κs = search needs
+
+element-write-out-3 : tie.Need-element-write-out-3
+element-write-out-3 c = search needs
+
+variant-value-requires : tie.Need-variant-value-requires
+variant-value-requires c κs = search needs
+
+element-write-out-4 : tie.Need-element-write-out-4
+element-write-out-4 c = search needs
+
+element-write-out-5 : tie.Need-element-write-out-5
+element-write-out-5 c = search needs
+
+element-write-out-6 : tie.Need-element-write-out-6
+element-write-out-6 c = search needs
+
+returns : tie.Need-returns
+returns c =
+    record {
+      class = refl;
+      stores =
+          rw (
+            c .before .before .before .truth .ensures,
+            c .before .variant-number .ensures,
+            c .variant-value .ensures,
+          );
+    }
+
+pub constant-spec : {M : Type 1} → statement M
+constant-spec =
+    tie.close
+    (tie.spec
+    truth-requires
+    element-write-out
+    cast-out
+    element-write-out-2
+    variant-number-requires
+    element-write-out-3
+    variant-value-requires
+    element-write-out-4
+    element-write-out-5
+    element-write-out-6
+    returns)

@@ -1,0 +1,71 @@
+-- `data_words::data_item` meets its contract.
+-- Assumes nothing.
+use borrow.Author.Needs.{needs}
+use mathlib.Core.Path.{refl}
+use Rattle.data_words.proofs.data_item.Statement.{statement}
+use Rattle.data_words.proofs.data_item.Tie as tie
+
+truth-requires : tie.Need-truth-requires
+truth-requires c κs = search needs
+
+element-write-out : tie.Need-element-write-out
+element-write-out c = search needs
+
+truth-requires-2 : tie.Need-truth-requires-2
+truth-requires-2 c κs = search needs
+
+element-write-out-2 : tie.Need-element-write-out-2
+element-write-out-2 c = search needs
+
+cast-out : tie.Need-cast-out
+cast-out c = search needs
+
+element-write-out-3 : tie.Need-element-write-out-3
+element-write-out-3 c = search needs
+
+cast-out-2 : tie.Need-cast-out-2
+cast-out-2 c = search needs
+
+element-write-out-4 : tie.Need-element-write-out-4
+element-write-out-4 c = search needs
+
+cast-out-3 : tie.Need-cast-out-3
+cast-out-3 c = search needs
+
+element-write-out-5 : tie.Need-element-write-out-5
+element-write-out-5 c = search needs
+
+element-write-out-6 : tie.Need-element-write-out-6
+element-write-out-6 c = search needs
+
+element-write-out-7 : tie.Need-element-write-out-7
+element-write-out-7 c = search needs
+
+returns : tie.Need-returns
+returns c =
+    record {
+      class = refl;
+      stores =
+          rw (
+            c .before .before .before .before .truth .ensures,
+            c .before .before .before .truth2 .ensures,
+          );
+    }
+
+pub data-item-spec : {M : Type 1} → statement M
+data-item-spec =
+    tie.close
+    (tie.spec
+    truth-requires
+    element-write-out
+    truth-requires-2
+    element-write-out-2
+    cast-out
+    element-write-out-3
+    cast-out-2
+    element-write-out-4
+    cast-out-3
+    element-write-out-5
+    element-write-out-6
+    element-write-out-7
+    returns)

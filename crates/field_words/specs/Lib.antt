@@ -1,0 +1,5 @@
+pub mod Written
+pub mod Fields
+pub mod Flags
+pub mod Record
+pub mod Stored

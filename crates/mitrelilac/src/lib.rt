@@ -1,0 +1,212 @@
+// The library that C links: the operations behind plain calls on lent bytes and numbers.
+//
+// A call that answers returns 0 and writes its words to those lent to it, from place 0 on; one that refuses returns the number of the
+// refusal and writes two, position and detail. Every other word stays as it was. No call keeps a reference or allocates.
+ghost use mathlib.Core.Path.{_≡_};
+ghost use mathlib.Core.List.{_∷_};
+ghost use Prim.Native.Nat.{_≤_};
+ghost use lib.ListN.{length};
+ghost use Rattle.kind.specs.Raw.{rawKind};
+ghost use Rattle.symbol.specs.Decode.{decode};
+ghost use Rattle.symbol_name.specs.Name.{nameOf};
+ghost use Rattle.register_entry.specs.Entry.{registerEntry};
+ghost use Rattle.iter.specs.Step.{stepOf};
+ghost use Rattle.check_nesting.specs.Check.{checkOf};
+ghost use Rattle.walk.specs.Walk.{walkOf};
+ghost use Rattle.jump.specs.Jump.{jumpOf};
+ghost use Rattle.climb.specs.Climb.{climbOf};
+ghost use Rattle.field_words.specs.Written.{written};
+ghost use Rattle.mitrelilac.specs.Reply.{Replied, refuses};
+ghost use Rattle.mitrelilac.specs.Replies.{stepReply, kindReply, decodeReply, nameReply, entryReply, checkReply, chainReply, findingReply, ascentReply};
+use chain::Chain;
+use check_nesting::Checked;
+use common::Refusal;
+use iter::Next;
+use records::Decoded;
+use records::OptionPart;
+use registers::ParsedEntry;
+use symbol_name::Named;
+use walk::Outcome;
+
+fn refuse(out: &mut [u64], e: Refusal) -> u32
+    requires { ⌜ 2 ≤ length (now out) ⌝ }
+    ensures { λ r. ⌜ Replied (refuses e) r (now (out .entry)) (now (out .exit)) ⌝ }
+{
+    field_words::put2(out, e.position as u64, e.detail as u64);
+    e.number as u32
+}
+
+// One step from a position. End: 0 and the position. A record: 1, its index, where its bytes start, how many they are, and the next
+// position.
+#[no_mangle]
+pub extern "C" fn mitrelilac_step(stream: &[u8], position: usize, out: &mut [u64; 5]) -> u32
+    ensures { λ r. ⌜ Replied (stepReply (stepOf (now (stream .entry)) position)) r (now (out .entry)) (now (out .exit)) ⌝ }
+{
+    match iter::step(stream, position) {
+        Next::End(at) => {
+            field_words::put2(out, 0, at as u64);
+            return 0;
+        }
+        Next::Record {
+            index,
+            start,
+            len,
+            next,
+        } => {
+            field_words::put5(out, 1, index as u64, start as u64, len as u64, next as u64);
+            return 0;
+        }
+        Next::Refused(e) => return refuse(out, e),
+    }
+}
+
+// The kind of a record, 1 if it opens a scope, and 1 if it closes one.
+#[no_mangle]
+pub extern "C" fn mitrelilac_kind(rec: &[u8], out: &mut [u64; 3]) -> u32
+    ensures { λ r. ⌜ Replied (kindReply (rawKind (now (rec .entry)))) r (now (out .entry)) (now (out .exit)) ⌝ }
+{
+    let kind = kind::raw_kind(rec);
+    let opener = words::truth(kind::starts_scope(rec));
+    let closer = words::truth(kind::ends_scope(rec));
+    field_words::put3(out, kind as u64, opener, closer);
+    0
+}
+
+// A record decoded: the number of its class, the bytes consumed, and its fields.
+#[no_mangle]
+pub extern "C" fn mitrelilac_decode(rec: &[u8], out: &mut [u64; 24]) -> u32
+    ensures { λ r. ⌜ Replied (decodeReply (decode (now (rec .entry)))) r (now (out .entry)) (now (out .exit)) ⌝ }
+{
+    match symbol::decode(rec) {
+        Decoded::Record(d, consumed) => {
+            record_words::write_record(d, consumed, out);
+            return 0;
+        }
+        Decoded::Refused(e) => return refuse(out, e),
+    }
+}
+
+// 1 and where the name starts and how long it is; 0, 0, 0 where the record has none.
+#[no_mangle]
+pub extern "C" fn mitrelilac_name(rec: &[u8], out: &mut [u64; 3]) -> u32
+    ensures { λ r. ⌜ Replied (nameReply (nameOf (now (rec .entry)))) r (now (out .entry)) (now (out .exit)) ⌝ }
+{
+    match symbol_name::name(rec) {
+        Named::Answer(has) => match has {
+            OptionPart::Some(p) => {
+                field_words::put3(out, 1, p.start as u64, p.len as u64);
+                return 0;
+            }
+            OptionPart::None => {
+                field_words::put3(out, 0, 0, 0);
+                return 0;
+            }
+        },
+        Named::Refused(e) => return refuse(out, e),
+    }
+}
+
+// The entry k of a register list: the register, and where its name starts and how long it is.
+#[no_mangle]
+pub extern "C" fn mitrelilac_register_entry(rec: &[u8], k: usize, out: &mut [u64; 3]) -> u32
+    ensures { λ r. ⌜ Replied (entryReply (registerEntry (now (rec .entry)) k)) r (now (out .entry)) (now (out .exit)) ⌝ }
+{
+    match register_entry::register_entry(rec, k) {
+        ParsedEntry::Value(entry, _) => {
+            let name = entry.name;
+            field_words::put3(
+                out,
+                entry.register as u64,
+                name.start as u64,
+                name.len as u64,
+            );
+            return 0;
+        }
+        ParsedEntry::Refused(e) => return refuse(out, e),
+    }
+}
+
+// The nesting check. The records read and their bytes, the records passed over and theirs, openers, deepest nesting.
+#[no_mangle]
+pub extern "C" fn mitrelilac_check(stream: &[u8], start: usize, out: &mut [u64; 6]) -> u32
+    ensures { λ r. ⌜ Replied (checkReply (checkOf (now (stream .entry)) start)) r (now (out .entry)) (now (out .exit)) ⌝ }
+{
+    match check_nesting::check(stream, start) {
+        Checked::Good(n) => {
+            field_words::put6(
+                out,
+                n.records as u64,
+                n.bytes as u64,
+                n.passed as u64,
+                n.skipped as u64,
+                n.openers as u64,
+                n.deepest as u64,
+            );
+            return 0;
+        }
+        Checked::Refused(e) => return refuse(out, e),
+    }
+}
+
+// Writes a count, and the depth and the places of a chain. The places are lent and not passed by value, so that their number is known.
+fn put_chain(out: &mut [u64], count: usize, depth: usize, at: &[u32])
+    requires { ⌜ length (now at) ≡ 64 ⌝ }
+    requires { ⌜ 66 ≤ length (now out) ⌝ }
+    ensures { λ _. ⌜ now (out .exit) ≡ written (count ∷ depth ∷ now (at .entry)) (now (out .entry)) ⌝ }
+{
+    field_words::put2(out, count as u64, depth as u64);
+    let mut k: usize = 0;
+    while k < 64 {
+        out[2 + k] = at[k] as u64;
+        k = k + 1;
+    }
+}
+
+// The reply of a finder, with its count of records read or of links.
+fn reply_chain(found: Outcome, count: usize, chain: Chain, out: &mut [u64; 66]) -> u32
+    ensures { λ r. ⌜ Replied (chainReply found count chain) r (now (out .entry)) (now (out .exit)) ⌝ }
+{
+    match found {
+        Outcome::Answer => {
+            let depth = chain.depth;
+            put_chain(out, count, depth, &chain.at);
+            return 0;
+        }
+        Outcome::Refused(e) => return refuse(out, e),
+    }
+}
+
+// The scopes that enclose the record at i, by steps from start: the number of records read, how many scopes there are, and 64 places
+// that list them, the outermost first, 0 behind them.
+#[no_mangle]
+pub extern "C" fn mitrelilac_walk(stream: &[u8], start: usize, i: usize, out: &mut [u64; 66]) -> u32
+    ensures { λ r. ⌜ Replied (findingReply (walkOf (now (stream .entry)) start i)) r (now (out .entry)) (now (out .exit)) ⌝ }
+{
+    let f = walk::walk(stream, start, i);
+    let found = f.out;
+    let chain = f.chain;
+    reply_chain(found, f.read, chain, out)
+}
+
+// The same as walking, where scopes that close before i are jumped over.
+#[no_mangle]
+pub extern "C" fn mitrelilac_jump(stream: &[u8], start: usize, i: usize, out: &mut [u64; 66]) -> u32
+    ensures { λ r. ⌜ Replied (findingReply (jumpOf (now (stream .entry)) start i)) r (now (out .entry)) (now (out .exit)) ⌝ }
+{
+    let f = jump::jump(stream, start, i);
+    let found = f.out;
+    let chain = f.chain;
+    reply_chain(found, f.read, chain, out)
+}
+
+// The scopes that enclose the opener at i, by parent fields: the number of links, how many scopes there are, and 64 places that list
+// them, the innermost first, 0 behind them.
+#[no_mangle]
+pub extern "C" fn mitrelilac_climb(stream: &[u8], i: usize, out: &mut [u64; 66]) -> u32
+    ensures { λ r. ⌜ Replied (ascentReply (climbOf (now (stream .entry)) i)) r (now (out .entry)) (now (out .exit)) ⌝ }
+{
+    let a = climb::climb(stream, i);
+    let found = a.out;
+    let chain = a.chain;
+    reply_chain(found, a.links, chain, out)
+}
