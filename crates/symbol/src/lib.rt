@@ -1,5 +1,6 @@
 // A record decoded to the typed record of its kind (pdb's Symbol::parse).
 ghost use mathlib.Core.Path.{_≡_};
+ghost use Rattle.common.specs.Reader.{refused, refusal};
 ghost use Rattle.constants.specs.Kind.{classOf};
 ghost use Rattle.records.specs.Answer.{decodedOf};
 ghost use Rattle.symbol.specs.Decode.{layout, decode};
@@ -11,18 +12,22 @@ use records::SymbolData;
 // The longest record that is decoded.
 pub const MAX_RECORD: usize = 0xffff;
 
+fn unimplemented(kind: u16) -> Decoded
+    ensures { λ r. ⌜ decodedOf r ≡ refused (refusal 3 0 kind) ⌝ }
+{
+    Decoded::Refused(Refusal {
+        number: 3,
+        position: 0,
+        detail: kind as u32,
+    })
+}
+
 // Decodes a record whose kind was read, by the layout of its class.
 fn parse_by_kind(s: &[u8], kind: u16) -> Decoded
     ensures { λ r. ⌜ decodedOf r ≡ layout (classOf kind) kind (now (s .entry)) 2 ⌝ }
 {
     match constants::class_of(kind) {
-        Class::Unknown => {
-            return Decoded::Refused(Refusal {
-                number: 3,
-                position: 0,
-                detail: kind as u32,
-            });
-        }
+        Class::Unknown => return unimplemented(kind),
         Class::ScopeEnd => return Decoded::Record(SymbolData::ScopeEnd, 2),
         Class::ObjName => return modules::parse_obj_name(s, kind),
         Class::RegisterVariable => return variables::parse_register_variable(s, kind),

@@ -14,7 +14,8 @@ parse-by-kind-spec =
     (tie.spec
     (λ c κs. search needs)
     (λ c. search needs)
-    (λ c. chosen _ _ (c .before .before .class-of .ensures) (c .enum-told .given .1))
+    (λ c κs. search needs)
+    (λ c. c .unimplemented .ensures ∙ chosen _ _ (c .before .before .before .class-of .ensures) (c .before .enum-told .given .1))
     (λ c. search needs)
     (λ c. chosen _ _ (c .before .before .class-of .ensures) (c .enum-told2 .given .1))
     (λ c. search needs)
