@@ -1,4 +1,4 @@
--- The name of each class of records whose fixed part is a row.
+-- The name of each class of records.
 -- Assumes nothing.
 use Prim.Native.Nat.{ℕ}
 use mathlib.Core.Path.{_≡_, refl, ap, _∙_, sym}
@@ -9,20 +9,22 @@ use Rattle.common.proofs.Readers.{then-value, then-refused}
 use Rattle.names.specs.Name.{symbolName}
 use Rattle.names.specs.declared.Part.{Part}
 use Rattle.records.specs.declared.OptionPart.the-variants.{None, Some}
-use Rattle.modules.specs.Module.{buildInfo, buildInfoOf, objName, objNameOf, usingNamespace, usingNamespaceOf}
-use Rattle.modules.proofs.Rows.{build-info-row, obj-name-row}
+use Rattle.modules.specs.Module.{buildInfo, buildInfoOf, compile2, compile3, objName, objNameOf, usingNamespace, usingNamespaceOf}
+use Rattle.modules.proofs.Rows.{build-info-row, compile2Of, compile2-row, compile3Of, compile3-row, obj-name-row}
 use Rattle.variables.specs.Variable.{registerVariable, registerVariableOf, userDefinedType, userDefinedTypeOf}
 use Rattle.variables.proofs.Rows.{register-variable-row, user-defined-type-row}
 use Rattle.storage.specs.Storage.{dataItem, dataOf, local, localOf, registerRelative, registerRelativeOf, threadStorage, threadStorageOf}
 use Rattle.storage.proofs.Rows.{data-row, local-row, register-relative-row, thread-storage-row}
 use Rattle.references.specs.Reference.{annotationReference, annotationReferenceOf, dataReference, dataReferenceOf, exportOf, exportSymbol, optionalName, procedureReference, procedureReferenceOf, publicOf, publicSymbol, reference}
 use Rattle.references.proofs.Rows.{export-row, public-row}
-use Rattle.scopes.specs.Scope.{block, blockOf, procedure, procedureOf, separatedCode, separatedCodeOf}
-use Rattle.scopes.proofs.Rows.{block-row, procedure-row, separated-row}
+use Rattle.registers.specs.Registers.{skip, registerList}
+use Rattle.registers.proofs.Lists.{list-value, list-refused}
+use Rattle.scopes.specs.Scope.{block, blockOf, countedSite, countedSiteOf, plainSite, plainSiteOf, procedure, procedureOf, rest, separatedCode, separatedCodeOf}
+use Rattle.scopes.proofs.Rows.{block-row, counted-row, plain-row, procedure-row, separated-row}
 use Rattle.thunks.specs.Thunk.{label, labelOf, trampoline, trampolineSymbolOf}
 use Rattle.thunks.proofs.Rows.{label-row, trampoline-row}
 use Rattle.symbol_name.specs.Name.{namedBy}
-use Rattle.symbol_name.specs.Behind.{answered, behind, namedBehind, unnamedBehind, optionalBehind, nothingBehind}
+use Rattle.symbol_name.specs.Behind.{answered, behind, namedBehind, unnamedBehind, optionalBehind, nothingBehind, entriesBehind}
 use Rattle.symbol_name.proofs.Rows.{row-name, row-no-name, room-of-name}
 
 pub obj-name-name : (kind : ℕ) (s : List ℕ) → namedBehind 6 kind s ≡ namedBy (objName kind s 2)
@@ -93,6 +95,31 @@ register-relative-name kind s = row-name Some 4 (4 ∷ 2 ∷ []) (symbolName kin
 
 pub separated-code-name : (s : List ℕ) → nothingBehind 30 s ≡ namedBy (separatedCode s 2)
 separated-code-name s = row-no-name 4 (4 ∷ 4 ∷ 4 ∷ 4 ∷ 4 ∷ 2 ∷ 2 ∷ []) separatedCodeOf (λ a b c d e f g h. refl) s ∙ ap namedBy (separated-row s 2)
+
+pub compile2-name : (kind : ℕ) (s : List ℕ) → unnamedBehind 20 kind s ≡ namedBy (compile2 kind s 2)
+unfolding unnamedBehind
+compile2-name kind s = row-name (λ n. None) 1 (2 ∷ 1 ∷ 2 ∷ 2 ∷ 2 ∷ 2 ∷ 2 ∷ 2 ∷ 2 ∷ []) (symbolName kind) compile2Of (λ a b c d e f g h i j n. refl) s ∙ ap namedBy (compile2-row kind s 2)
+
+pub compile3-name : (kind : ℕ) (s : List ℕ) → unnamedBehind 24 kind s ≡ namedBy (compile3 kind s 2)
+unfolding unnamedBehind
+compile3-name kind s = row-name (λ n. None) 1 (2 ∷ 1 ∷ 2 ∷ 2 ∷ 2 ∷ 2 ∷ 2 ∷ 2 ∷ 2 ∷ 2 ∷ 2 ∷ []) (symbolName kind) compile3Of (λ a b c d e f g h i j k l n. refl) s ∙ ap namedBy (compile3-row kind s 2)
+
+-- annotations are all that is left, so that reading them refuses nothing
+pub plain-site-name : (s : List ℕ) → nothingBehind 14 s ≡ namedBy (plainSite s 2)
+unfolding nothingBehind rest
+plain-site-name s = row-name (λ a. None) 4 (4 ∷ 4 ∷ []) rest plainSiteOf (λ a b c n. refl) s ∙ ap namedBy (plain-row s 2)
+
+pub counted-site-name : (s : List ℕ) → nothingBehind 18 s ≡ namedBy (countedSite s 2)
+unfolding nothingBehind rest
+counted-site-name s = row-name (λ a. None) 4 (4 ∷ 4 ∷ 4 ∷ []) rest countedSiteOf (λ a b c d n. refl) s ∙ ap namedBy (counted-row s 2)
+
+pub entries-name : (kind type count : ℕ) (s : List ℕ) (first : ℕ) → entriesBehind first kind count s ≡ namedBy (registerList kind type count s first)
+unfolding entriesBehind
+entries-name kind type count s first = go (skip kind count s first) refl
+  where
+    go : (r : Read (Unit {0})) → skip kind count s first ≡ r → answered (λ (u : Unit {0}). None) r ≡ namedBy (registerList kind type count s first)
+    go (value u to) e = ap namedBy (list-value kind type count s first (sym e))
+    go (refused x) e = ap namedBy (list-refused kind type count s first (sym e))
 
 pub using-namespace-name : (kind : ℕ) (s : List ℕ) → namedBehind 2 kind s ≡ namedBy (usingNamespace kind s 2)
 unfolding namedBehind usingNamespace

@@ -1,3 +1,2 @@
-pub mod Nameless
 pub mod Rows
 pub mod Classes

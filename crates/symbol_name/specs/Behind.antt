@@ -9,8 +9,8 @@ use Rattle.names.specs.Name.{symbolName}
 use Rattle.names.specs.declared.Part.{Part}
 use Rattle.records.specs.declared.OptionPart.{OptionPart}
 use Rattle.records.specs.declared.OptionPart.the-variants.{None, Some}
-use Rattle.records.specs.declared.SymbolData.{SymbolData}
 use Rattle.references.specs.Reference.{optionalName}
+use Rattle.registers.specs.Registers.{skip}
 use Rattle.symbol_name.specs.declared.Named.{Named}
 use Rattle.symbol_name.specs.declared.Named.the-variants as N
 
@@ -35,7 +35,6 @@ optionalBehind at kind s = behind (λ o. o) (optionalName kind) at s
 unfoldable pub nothingBehind : ℕ → List ℕ → Named
 nothingBehind at s = cond (ltb (length s) at) (N.Refused runsOut) (N.Answer None)
 
--- a record of a class without names
-abbrev pub unnamedBy : Read SymbolData → Named
-unnamedBy (value d consumed) = N.Answer None
-unnamedBy (refused e) = N.Refused e
+-- a register list whose first entry stands at a position
+unfoldable pub entriesBehind : ℕ → ℕ → ℕ → List ℕ → Named
+entriesBehind first kind count s = answered (λ u. None) (skip kind count s first)

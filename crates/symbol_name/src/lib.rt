@@ -1,7 +1,6 @@
 // The name of a record (pdb's SymbolData::name), found without building the typed record.
 ghost use mathlib.Core.Path.{_≡_};
 ghost use Rattle.constants.specs.Kind.{classOf};
-ghost use Rattle.records.specs.Answer.{decodedOf};
 ghost use Rattle.symbol.specs.Decode.{layout};
 ghost use Rattle.modules.specs.Module.{compile};
 ghost use Rattle.registers.specs.Registers.{multiRegisterVariable};
@@ -9,13 +8,17 @@ ghost use Rattle.scopes.specs.Scope.{inlineSite};
 ghost use Rattle.thunks.specs.Thunk.{thunk};
 ghost use Rattle.variables.specs.Variable.{constant};
 ghost use Rattle.symbol_name.specs.Name.{nameOf, namedBy, nameBytes};
-ghost use Rattle.symbol_name.specs.Behind.{namedBehind, unnamedBehind, optionalBehind, nothingBehind, unnamedBy};
+ghost use Rattle.symbol_name.specs.Behind.{namedBehind, unnamedBehind, optionalBehind, nothingBehind, entriesBehind};
 use common::Refusal;
 use constants::Class;
+use constants::S_COMPILE3;
+use constants::S_INLINESITE2;
+use constants::S_MANYREG2;
+use constants::S_MANYREG2_ST;
 use names::ParsedPart;
-use records::Decoded;
 use records::OptionPart;
 use references::ParsedOptionPart;
+use registers::Skipped;
 use thunks::ParsedThunkKind;
 use variant::ParsedVariant;
 
@@ -75,34 +78,48 @@ fn nothing_behind(s: &[u8], at: usize) -> Named
     }
 }
 
-// A record of a class without names, decoded.
-fn unnamed(d: Decoded) -> Named
-    ensures { λ r. ⌜ r ≡ unnamedBy (decodedOf d) ⌝ }
-{
-    match d {
-        Decoded::Record(_, _) => Named::Answer(OptionPart::None),
-        Decoded::Refused(e) => Named::Refused(e),
-    }
-}
-
-// The decoded records of these three classes each have a function of their own: in one that chooses among all classes they would
-// stand, unread, at every step of its proof.
-fn register_list_name(s: &[u8], kind: u16) -> Named
-    ensures { λ r. ⌜ r ≡ namedBy (multiRegisterVariable kind (now (s .entry)) 2) ⌝ }
-{
-    unnamed(registers::parse_multi_register_variable(s, kind))
-}
-
+// Compile flags have a version string, which is no name.
 fn compile_name(s: &[u8], kind: u16) -> Named
     ensures { λ r. ⌜ r ≡ namedBy (compile kind (now (s .entry)) 2) ⌝ }
 {
-    unnamed(modules::parse_compile_flags(s, kind))
+    if kind == S_COMPILE3 {
+        return unnamed_behind(s, 24, kind);
+    }
+    unnamed_behind(s, 20, kind)
 }
 
 fn inline_site_name(s: &[u8], kind: u16) -> Named
     ensures { λ r. ⌜ r ≡ namedBy (inlineSite kind (now (s .entry)) 2) ⌝ }
 {
-    unnamed(scopes::parse_inline_site(s, kind))
+    if kind == S_INLINESITE2 {
+        return nothing_behind(s, 18);
+    }
+    nothing_behind(s, 14)
+}
+
+// A register list whose count was found: its names are those of the entries.
+fn entries_behind(s: &[u8], first: usize, kind: u16, count: u16) -> Named
+    ensures { λ r. ⌜ r ≡ entriesBehind first kind count (now (s .entry)) ⌝ }
+{
+    match registers::skip_entries(s, first, kind, count) {
+        Skipped::At(_) => Named::Answer(OptionPart::None),
+        Skipped::Refused(e) => Named::Refused(e),
+    }
+}
+
+fn register_list_name(s: &[u8], kind: u16) -> Named
+    ensures { λ r. ⌜ r ≡ namedBy (multiRegisterVariable kind (now (s .entry)) 2) ⌝ }
+{
+    if (kind == S_MANYREG2) | (kind == S_MANYREG2_ST) {
+        if s.len() < 8 {
+            return Named::Refused(Refusal::UNEXPECTED_EOF);
+        }
+        return entries_behind(s, 8, kind, common::u16_at(s, 6));
+    }
+    if s.len() < 7 {
+        return Named::Refused(Refusal::UNEXPECTED_EOF);
+    }
+    entries_behind(s, 7, kind, common::u8_at(s, 6) as u16)
 }
 
 fn constant_name(s: &[u8], kind: u16) -> Named

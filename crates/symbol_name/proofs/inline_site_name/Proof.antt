@@ -1,19 +1,26 @@
 -- `symbol_name::inline_site_name` meets its contract.
 -- Assumes nothing.
 use borrow.Author.Needs.{needs}
+use borrow.Author.Tests.{eq-eqb, ne-eqb}
 use mathlib.Core.Path.{_∙_}
-use Rattle.symbol_name.proofs.Nameless.{inline-site-unnamed}
+use Rattle.scopes.specs.Scope.{inlineSite}
+use Rattle.symbol_name.proofs.Classes.{plain-site-name, counted-site-name}
 use Rattle.symbol_name.proofs.inline_site_name.Statement.{statement}
 use Rattle.symbol_name.proofs.inline_site_name.Tie as tie
 
-parse-inline-site-requires : tie.Need-parse-inline-site-requires
-parse-inline-site-requires c κs = search needs
-
-unnamed-requires : tie.Need-unnamed-requires
-unnamed-requires c κs = search needs
+nothing-behind-requires : tie.Need-nothing-behind-requires
+nothing-behind-requires c κs = search needs
 
 returns : tie.Need-returns
-returns c = c .unnamed .ensures ∙ inline-site-unnamed _ _ (c .before .parse-inline-site .ensures)
+unfolding inlineSite
+returns c = rw (eq-eqb _ 0x115d (c .before .if1 .taken)) (c .nothing-behind .ensures ∙ counted-site-name _)
+
+nothing-behind-requires-2 : tie.Need-nothing-behind-requires-2
+nothing-behind-requires-2 c κs = search needs
+
+returns-2 : tie.Need-returns-2
+unfolding inlineSite
+returns-2 c = rw (ne-eqb _ 0x115d (c .before .if1 .left)) (c .nothing-behind2 .ensures ∙ plain-site-name _)
 
 pub inline-site-name-spec : {M : Type 1} → statement M
-inline-site-name-spec = tie.close (tie.spec parse-inline-site-requires unnamed-requires returns)
+inline-site-name-spec = tie.close (tie.spec nothing-behind-requires returns nothing-behind-requires-2 returns-2)

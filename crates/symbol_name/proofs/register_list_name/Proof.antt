@@ -1,19 +1,54 @@
 -- `symbol_name::register_list_name` meets its contract.
 -- Assumes nothing.
 use borrow.Author.Needs.{needs}
-use mathlib.Core.Path.{_∙_}
-use Rattle.symbol_name.proofs.Nameless.{register-list-unnamed}
+use mathlib.Core.Path.{refl, ap, _∙_}
+use Rattle.registers.proofs.Lists.{count-long, count-short, multi-there, multi-short}
+use Rattle.symbol_name.specs.Name.{namedBy}
+use Rattle.symbol_name.proofs.Classes.{entries-name}
 use Rattle.symbol_name.proofs.register_list_name.Statement.{statement}
 use Rattle.symbol_name.proofs.register_list_name.Tie as tie
 
-parse-multi-register-variable-requires : tie.Need-parse-multi-register-variable-requires
-parse-multi-register-variable-requires c κs = search needs
-
-unnamed-requires : tie.Need-unnamed-requires
-unnamed-requires c κs = search needs
-
 returns : tie.Need-returns
-returns c = c .unnamed .ensures ∙ register-list-unnamed _ _ (c .before .parse-multi-register-variable .ensures)
+returns c = ap namedBy (multi-short 2 _ _ 2 (count-long _ (c .before .if1 .taken)) (c .if2 .taken))
+
+u16-at-requires : tie.Need-u16-at-requires
+u16-at-requires c κs = search needs
+
+entries-behind-requires : tie.Need-entries-behind-requires
+entries-behind-requires c κs = search needs
+
+returns-2 : tie.Need-returns-2
+returns-2 c =
+    let t = c .before .before in
+    c .entries-behind .ensures ∙ entries-name _ _ _ _ _ ∙ ap namedBy (multi-there 2 _ _ 2 (count-long _ (t .before .if1 .taken)) (t .if2 .left) refl (c .before .u16-at .ensures) refl)
+
+returns-3 : tie.Need-returns-3
+returns-3 c = ap namedBy (multi-short 1 _ _ 2 (count-short _ (c .before .if1 .left)) (c .if3 .taken))
+
+u8-at-requires : tie.Need-u8-at-requires
+u8-at-requires c κs = search needs
+
+cast-entries-behind : tie.Need-cast-entries-behind
+cast-entries-behind c = search needs
+
+entries-behind-requires-2 : tie.Need-entries-behind-requires-2
+entries-behind-requires-2 c κs = search needs
+
+returns-4 : tie.Need-returns-4
+returns-4 c =
+    let t = c .before .before in
+    c .entries-behind2 .ensures ∙ entries-name _ _ _ _ _ ∙ ap namedBy (multi-there 1 _ _ 2 (count-short _ (t .before .if1 .left)) (t .if3 .left) refl (c .before .u8-at .ensures) refl)
 
 pub register-list-name-spec : {M : Type 1} → statement M
-register-list-name-spec = tie.close (tie.spec parse-multi-register-variable-requires unnamed-requires returns)
+register-list-name-spec =
+    tie.close
+    (tie.spec
+    returns
+    u16-at-requires
+    entries-behind-requires
+    returns-2
+    returns-3
+    u8-at-requires
+    cast-entries-behind
+    entries-behind-requires-2
+    returns-4)
