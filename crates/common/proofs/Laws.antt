@@ -1,7 +1,7 @@
 -- Laws of little-endian numbers, over the width.
 -- Assumes nothing.
-use Prim.Native.Nat.{ℕ, zero, suc, _+_, _-_, _*_, _^_, _≤_}
-use mathlib.Core.Path.{_≡_, refl, ap, _∙_}
+use Prim.Native.Nat.{ℕ, zero, suc, _+_, _-_, _*_, _^_}
+use mathlib.Core.Path.{_≡_, refl}
 use mathlib.Core.List.{List}
 use mathlib.Core.Bool.{Bool, true, false, cond}
 use native.Mathlib.Nat.{add-zero, zero-add, one-mul, suc-add, add-suc, pow-succ', mul-assoc}
@@ -43,10 +43,3 @@ half-bits w128 = refl
 pub signed-same : (w : Width) (x : ℕ) → toZ w x ≡ signed (bits w) x
 unfolding signed
 signed-same w x = rw (half-bits w) (sel-cond (ltb x (2 ^ hbits w)) (pos x) (negsuc (2 ^ bits w - suc x)))
-
-flipped : (m x : ℕ) → x ≤ m → m - (m - x) ≡ x
-flipped m x h = omega arith
-
--- so is that of `!(m - x)`, where m has all bits set
-pub signed-flip : (w : Width) (m x : ℕ) → x ≤ m → toZ w (m - (m - x)) ≡ signed (bits w) x
-signed-flip w m x h = ap (toZ w) (flipped m x h) ∙ signed-same w x

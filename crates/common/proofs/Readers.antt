@@ -1,15 +1,14 @@
 -- Laws of readers: what reading gives where the bytes are there, and where they run out.
 -- Assumes nothing.
-use Prim.Native.Nat.{ℕ, _+_, _*_, _≤_, _<_}
+use Prim.Native.Nat.{ℕ, _+_, _≤_, _<_}
 use mathlib.Core.Path.{_≡_, ap, _∙_, sym}
 use mathlib.Core.List.{List}
 use mathlib.Core.Bool.{Bool, true, false}
 use borrow.Author.Tests.{leb-true, leb-false}
 use lib.ListN.{length}
 use lib.Dec.{leb}
-use lib.IntN.{ℤ}
-use Rattle.common.specs.Bytes.{le, signed}
-use Rattle.common.specs.Reader.{Read, value, refused, Reader, runsOut, done, next, _>>=_, uint, sint}
+use Rattle.common.specs.Bytes.{le}
+use Rattle.common.specs.Reader.{Read, value, refused, Reader, runsOut, next, _>>=_, uint}
 use Rattle.common.specs.declared.Refusal.{Refusal}
 
 -- what a test of room says of the numbers
@@ -44,13 +43,3 @@ module _ (n : ℕ) (s : List ℕ) (at : ℕ) {b : Bool} (e : b ≡ leb (at + n) 
 
   pub read-short : b ≡ false → refused runsOut ≡ uint n s at
   read-short t = sym (uint-short n s at (sym e ∙ t))
-
-  pub read-signed : {x : ℤ} → b ≡ true → x ≡ signed (8 * n) (le n s at) → value x (at + n) ≡ sint n s at
-  unfolding sint
-  read-signed t p =
-      ap (λ (v : ℤ). value v (at + n)) p
-      ∙ sym (then-value (uint n) (λ x. done (signed (8 * n) x)) s at (uint-value n s at (sym e ∙ t)))
-
-  pub read-signed-short : b ≡ false → refused runsOut ≡ sint n s at
-  unfolding sint
-  read-signed-short t = sym (then-refused (uint n) (λ x. done (signed (8 * n) x)) s at (uint-short n s at (sym e ∙ t)))

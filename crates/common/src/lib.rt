@@ -1,4 +1,5 @@
-// Numbers read at a position of lent bytes (pdb's src/common.rs, ParseBuffer), and the refusal that every layer answers with.
+// Unsigned numbers read at a position of lent bytes (pdb's src/common.rs, ParseBuffer), and the refusal that every layer
+// answers with.
 //
 // A `parse_` function tests the room and answers the number with the position after it, or a refusal. An `_at` function
 // reads where the caller has shown that the bytes are there, so that a record's room is tested once.
@@ -6,9 +7,9 @@ ghost use mathlib.Core.Path.{_≡_};
 ghost use Prim.Native.Nat.{_+_, _≤_};
 ghost use lib.ListN.{length};
 ghost use lib.Dec.{leb};
-ghost use Rattle.common.specs.Bytes.{le, signed};
-ghost use Rattle.common.specs.Reader.{uint, sint};
-ghost use Rattle.common.specs.Answer.{u8Of, u16Of, u32Of, u64Of, i16Of, i32Of, i64Of};
+ghost use Rattle.common.specs.Bytes.{le};
+ghost use Rattle.common.specs.Reader.{uint};
+ghost use Rattle.common.specs.Answer.{u8Of, u16Of, u32Of, u64Of};
 
 // Why a call refuses: the number of the refusal, and the position and the kind or prefix that it carries, 0 where it carries none.
 pub struct Refusal {
@@ -64,40 +65,6 @@ pub fn u64_at(s: &[u8], at: usize) -> u64
     u32_at(s, at) as u64 + 0x1_0000_0000 * (u32_at(s, at + 4) as u64)
 }
 
-// An `i` function reads in two's complement.
-pub fn i16_at(s: &[u8], at: usize) -> i16
-    requires { ⌜ at + 2 ≤ length (now s) ⌝ }
-    ensures { λ r. ⌜ r ≡ signed 16 (le 2 (now (s .entry)) at) ⌝ }
-{
-    let x = u16_at(s, at);
-    if x < 0x8000 {
-        return x as i16;
-    }
-    !((0xffff - x) as i16)
-}
-
-pub fn i32_at(s: &[u8], at: usize) -> i32
-    requires { ⌜ at + 4 ≤ length (now s) ⌝ }
-    ensures { λ r. ⌜ r ≡ signed 32 (le 4 (now (s .entry)) at) ⌝ }
-{
-    let x = u32_at(s, at);
-    if x < 0x8000_0000 {
-        return x as i32;
-    }
-    !((0xffff_ffff - x) as i32)
-}
-
-pub fn i64_at(s: &[u8], at: usize) -> i64
-    requires { ⌜ at + 8 ≤ length (now s) ⌝ }
-    ensures { λ r. ⌜ r ≡ signed 64 (le 8 (now (s .entry)) at) ⌝ }
-{
-    let x = u64_at(s, at);
-    if x < 0x8000_0000_0000_0000 {
-        return x as i64;
-    }
-    !((0xffff_ffff_ffff_ffff - x) as i64)
-}
-
 // What reading a number answers: the number and the position after it, or the refusal.
 pub enum ParsedU8 {
     Value(u8, usize),
@@ -116,21 +83,6 @@ pub enum ParsedU32 {
 
 pub enum ParsedU64 {
     Value(u64, usize),
-    Refused(Refusal),
-}
-
-pub enum ParsedI16 {
-    Value(i16, usize),
-    Refused(Refusal),
-}
-
-pub enum ParsedI32 {
-    Value(i32, usize),
-    Refused(Refusal),
-}
-
-pub enum ParsedI64 {
-    Value(i64, usize),
     Refused(Refusal),
 }
 
@@ -168,31 +120,4 @@ pub fn parse_u64(s: &[u8], at: usize) -> ParsedU64
         return ParsedU64::Value(u64_at(s, at), at + 8);
     }
     ParsedU64::Refused(Refusal::UNEXPECTED_EOF)
-}
-
-pub fn parse_i16(s: &[u8], at: usize) -> ParsedI16
-    ensures { λ r. ⌜ i16Of r ≡ sint 2 (now (s .entry)) at ⌝ }
-{
-    if has_room(s, at, 2) {
-        return ParsedI16::Value(i16_at(s, at), at + 2);
-    }
-    ParsedI16::Refused(Refusal::UNEXPECTED_EOF)
-}
-
-pub fn parse_i32(s: &[u8], at: usize) -> ParsedI32
-    ensures { λ r. ⌜ i32Of r ≡ sint 4 (now (s .entry)) at ⌝ }
-{
-    if has_room(s, at, 4) {
-        return ParsedI32::Value(i32_at(s, at), at + 4);
-    }
-    ParsedI32::Refused(Refusal::UNEXPECTED_EOF)
-}
-
-pub fn parse_i64(s: &[u8], at: usize) -> ParsedI64
-    ensures { λ r. ⌜ i64Of r ≡ sint 8 (now (s .entry)) at ⌝ }
-{
-    if has_room(s, at, 8) {
-        return ParsedI64::Value(i64_at(s, at), at + 8);
-    }
-    ParsedI64::Refused(Refusal::UNEXPECTED_EOF)
 }

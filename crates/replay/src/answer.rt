@@ -2,15 +2,15 @@
 use crate::reply::FREE;
 use crate::reply::Words;
 use crate::reply::words_of;
-use common::ParsedI16;
-use common::ParsedI32;
-use common::ParsedI64;
 use common::ParsedU8;
 use common::ParsedU16;
 use common::ParsedU32;
 use common::ParsedU64;
 use common::Refusal;
 use names::ParsedPart;
+use signed::ParsedI16;
+use signed::ParsedI32;
+use signed::ParsedI64;
 use variant::ParsedVariant;
 use variant::Variant;
 
@@ -48,15 +48,15 @@ fn unsigned(op: u64, s: &[u8], at: usize) -> Words {
 
 fn signed(op: u64, s: &[u8], at: usize) -> Words {
     match op {
-        5 => match common::parse_i16(s, at) {
+        5 => match signed::parse_i16(s, at) {
             ParsedI16::Value(x, next) => value(words::i16_word(x), next),
             ParsedI16::Refused(e) => refused(e),
         },
-        6 => match common::parse_i32(s, at) {
+        6 => match signed::parse_i32(s, at) {
             ParsedI32::Value(x, next) => value(words::i32_word(x), next),
             ParsedI32::Refused(e) => refused(e),
         },
-        _ => match common::parse_i64(s, at) {
+        _ => match signed::parse_i64(s, at) {
             ParsedI64::Value(x, next) => value(words::i64_word(x), next),
             ParsedI64::Refused(e) => refused(e),
         },

@@ -105,7 +105,7 @@ pub fn parse_register_relative(s: &[u8], kind: u16) -> Decoded
     match names::parse_symbol_name(s, 12, kind) {
         ParsedPart::Value(name, next) => {
             let data = RegisterRelativeSymbol {
-                offset: common::i32_at(s, 2),
+                offset: signed::i32_at(s, 2),
                 type_index: common::u32_at(s, 6),
                 register: common::u16_at(s, 10),
                 name,

@@ -2,14 +2,14 @@
 ghost use mathlib.Core.Path.{_≡_};
 ghost use Rattle.variant.specs.Numeric.{leaf, numeric};
 ghost use Rattle.variant.specs.Answer.{variantOf};
-use common::ParsedI16;
-use common::ParsedI32;
-use common::ParsedI64;
 use common::ParsedU8;
 use common::ParsedU16;
 use common::ParsedU32;
 use common::ParsedU64;
 use common::Refusal;
+use signed::ParsedI16;
+use signed::ParsedI32;
+use signed::ParsedI64;
 
 pub const LF_NUMERIC: u16 = 0x8000;
 
@@ -52,7 +52,7 @@ fn parse_leaf(s: &[u8], at: usize, prefix: u16) -> ParsedVariant
             ParsedU8::Value(x, next) => ParsedVariant::Value(Variant::U8(x), next),
             ParsedU8::Refused(e) => ParsedVariant::Refused(e),
         },
-        LF_SHORT => match common::parse_i16(s, at) {
+        LF_SHORT => match signed::parse_i16(s, at) {
             ParsedI16::Value(x, next) => ParsedVariant::Value(Variant::I16(x), next),
             ParsedI16::Refused(e) => ParsedVariant::Refused(e),
         },
@@ -60,7 +60,7 @@ fn parse_leaf(s: &[u8], at: usize, prefix: u16) -> ParsedVariant
             ParsedU16::Value(x, next) => ParsedVariant::Value(Variant::U16(x), next),
             ParsedU16::Refused(e) => ParsedVariant::Refused(e),
         },
-        LF_LONG => match common::parse_i32(s, at) {
+        LF_LONG => match signed::parse_i32(s, at) {
             ParsedI32::Value(x, next) => ParsedVariant::Value(Variant::I32(x), next),
             ParsedI32::Refused(e) => ParsedVariant::Refused(e),
         },
@@ -68,7 +68,7 @@ fn parse_leaf(s: &[u8], at: usize, prefix: u16) -> ParsedVariant
             ParsedU32::Value(x, next) => ParsedVariant::Value(Variant::U32(x), next),
             ParsedU32::Refused(e) => ParsedVariant::Refused(e),
         },
-        LF_QUADWORD => match common::parse_i64(s, at) {
+        LF_QUADWORD => match signed::parse_i64(s, at) {
             ParsedI64::Value(x, next) => ParsedVariant::Value(Variant::I64(x), next),
             ParsedI64::Refused(e) => ParsedVariant::Refused(e),
         },

@@ -1,12 +1,13 @@
--- `common::i64_at` meets its contract.
+-- `signed::i64_at` meets its contract.
 -- Assumes nothing.
 use borrow.Author.Needs.{needs}
 use mathlib.Core.Path.{ap, _∙_}
 use mir.Syntax.{w64}
 use Rattle.common.specs.Bytes.{signed}
-use Rattle.common.proofs.Laws.{signed-same, signed-flip}
-use Rattle.common.proofs.i64_at.Statement.{statement}
-use Rattle.common.proofs.i64_at.Tie as tie
+use Rattle.common.proofs.Laws.{signed-same}
+use Rattle.signed.proofs.Signed.{signed-flip}
+use Rattle.signed.proofs.i64_at.Statement.{statement}
+use Rattle.signed.proofs.i64_at.Tie as tie
 
 u64-at-requires : tie.Need-u64-at-requires
 u64-at-requires c κs = search needs

@@ -1,12 +1,13 @@
--- `common::i32_at` meets its contract.
+-- `signed::i32_at` meets its contract.
 -- Assumes nothing.
 use borrow.Author.Needs.{needs}
 use mathlib.Core.Path.{ap, _∙_}
 use mir.Syntax.{w32}
 use Rattle.common.specs.Bytes.{signed}
-use Rattle.common.proofs.Laws.{signed-same, signed-flip}
-use Rattle.common.proofs.i32_at.Statement.{statement}
-use Rattle.common.proofs.i32_at.Tie as tie
+use Rattle.common.proofs.Laws.{signed-same}
+use Rattle.signed.proofs.Signed.{signed-flip}
+use Rattle.signed.proofs.i32_at.Statement.{statement}
+use Rattle.signed.proofs.i32_at.Tie as tie
 
 u32-at-requires : tie.Need-u32-at-requires
 u32-at-requires c κs = search needs

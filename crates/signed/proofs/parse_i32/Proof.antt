@@ -1,4 +1,4 @@
--- `common::parse_i32` meets its contract.
+-- `signed::parse_i32` meets its contract.
 -- Assumes nothing.
 use borrow.Author.Needs.{needs}
 use mir.Syntax.{w32}
@@ -8,9 +8,10 @@ use Prim.Native.Nat.{_+_}
 use native.Mathlib.Omega.{arith}
 use lib.ListN.{length}
 use denote.Ref.{now}
-use Rattle.common.proofs.Readers.{room, read-signed, read-signed-short}
-use Rattle.common.proofs.parse_i32.Statement.{statement}
-use Rattle.common.proofs.parse_i32.Tie as tie
+use Rattle.common.proofs.Readers.{room}
+use Rattle.signed.proofs.Signed.{read-signed, read-signed-short}
+use Rattle.signed.proofs.parse_i32.Statement.{statement}
+use Rattle.signed.proofs.parse_i32.Tie as tie
 
 has-room-requires : tie.Need-has-room-requires
 has-room-requires c κs = search needs
