@@ -15,7 +15,7 @@ ghost use Rattle.common.specs.Answer.{u8Of, u16Of, u32Of, u64Of};
 pub struct Refusal {
     pub number: u8,
     pub position: usize,
-    pub detail: u32,
+    pub detail: u64,
 }
 
 impl Refusal {

@@ -32,7 +32,7 @@ fn refuse(out: &mut [u64], e: Refusal) -> u32
     requires { ⌜ 2 ≤ length (now out) ⌝ }
     ensures { λ r. ⌜ Replied (refuses e) r (now (out .entry)) (now (out .exit)) ⌝ }
 {
-    field_words::put2(out, e.position as u64, e.detail as u64);
+    field_words::put2(out, e.position as u64, e.detail);
     e.number as u32
 }
 

@@ -15,7 +15,7 @@ use variant::ParsedVariant;
 use variant::Variant;
 
 fn refused(e: Refusal) -> Words {
-    let out = [e.position as u64, e.detail as u64];
+    let out = [e.position as u64, e.detail];
     words_of(e.number as u32, &out)
 }
 

@@ -18,7 +18,7 @@ fn unimplemented(kind: u16) -> Decoded
     Decoded::Refused(Refusal {
         number: 3,
         position: 0,
-        detail: kind as u32,
+        detail: kind as u64,
     })
 }
 

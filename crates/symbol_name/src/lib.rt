@@ -162,7 +162,7 @@ fn name_by_kind(s: &[u8], kind: u16) -> Named
         Class::Unknown => Named::Refused(Refusal {
             number: 3,
             position: 0,
-            detail: kind as u32,
+            detail: kind as u64,
         }),
         Class::ScopeEnd => Named::Answer(OptionPart::None),
         Class::ObjName => named_behind(s, 6, kind),

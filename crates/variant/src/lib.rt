@@ -79,7 +79,7 @@ fn parse_leaf(s: &[u8], at: usize, prefix: u16) -> ParsedVariant
         _ => ParsedVariant::Refused(Refusal {
             number: 4,
             position: 0,
-            detail: prefix as u32,
+            detail: prefix as u64,
         }),
     }
 }
