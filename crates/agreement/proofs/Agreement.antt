@@ -14,7 +14,7 @@ use Rattle.iter.specs.declared.Next.the-variants as N
 use Rattle.iter.proofs.Reading.{step-fits, read-by}
 use Rattle.iter.proofs.Records.{Rising, rising}
 use Rattle.chain.specs.Chain.{chainOf}
-use Rattle.links.specs.Links.{roleOf}
+use Rattle.kind.specs.Raw.{roleOf}
 use Rattle.walk.specs.Finding.{Walk, seen, foundBy, refusedBy, answerOf, findingOf}
 use Rattle.walk.specs.declared.Outcome.{Outcome}
 use Rattle.walk.specs.declared.Outcome.the-variants.{Answer, Refused}

@@ -17,7 +17,8 @@ use Rattle.iter.specs.Reading.{Reading, recAt, more, readOf}
 use Rattle.iter.specs.declared.Next.{Next}
 use Rattle.iter.specs.declared.Next.the-variants as N
 use Rattle.iter.proofs.Records.{read-ind}
-use Rattle.links.specs.Links.{roleOf, linksOf}
+use Rattle.kind.specs.Raw.{roleOf}
+use Rattle.links.specs.Links.{linksOf}
 use Rattle.links.specs.declared.Links.{Links}
 use Rattle.links.specs.declared.Links.the-variants.{Unread, Read}
 use Rattle.check_nesting.specs.declared.Counts.{Counts}

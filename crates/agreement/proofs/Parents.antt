@@ -16,7 +16,8 @@ use Rattle.iter.specs.declared.Scan.{Scan}
 use Rattle.iter.proofs.Records.{again}
 use Rattle.chain.specs.Chain.{chainOf}
 use Rattle.chain.specs.declared.Chain.{Chain}
-use Rattle.links.specs.Links.{roleOf, linksOf}
+use Rattle.kind.specs.Raw.{roleOf}
+use Rattle.links.specs.Links.{linksOf}
 use Rattle.links.specs.declared.Links.the-variants.{Read}
 use Rattle.check_nesting.specs.Check.{Open, innerIndex}
 use Rattle.climb.specs.declared.Ascent.{Ascent}

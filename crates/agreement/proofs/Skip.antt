@@ -12,7 +12,7 @@ use Rattle.iter.specs.declared.Scan.{Scan}
 use Rattle.iter.specs.declared.Next.the-variants as N
 use Rattle.iter.proofs.Reading.{step-fits}
 use Rattle.iter.proofs.Records.{again}
-use Rattle.links.specs.Links.{roleOf}
+use Rattle.kind.specs.Raw.{roleOf}
 use Rattle.walk.specs.Finding.{Walk, seen}
 use Rattle.walk.proofs.Walks.{walkAt}
 use Rattle.check_nesting.specs.Check.{Open}

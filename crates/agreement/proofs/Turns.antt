@@ -13,7 +13,8 @@ use Rattle.constants.specs.declared.Role.the-variants.{Neither, Opens, Closes}
 use Rattle.iter.specs.Step.{scanOf}
 use Rattle.iter.specs.Reading.{Rec, recAt}
 use Rattle.iter.specs.declared.Next.the-variants as N
-use Rattle.links.specs.Links.{roleOf, linksOf}
+use Rattle.kind.specs.Raw.{roleOf}
+use Rattle.links.specs.Links.{linksOf}
 use Rattle.links.specs.declared.Links.{Links}
 use Rattle.links.specs.declared.Links.the-variants.{Read}
 use Rattle.walk.specs.Finding.{Walk, seen, stops}

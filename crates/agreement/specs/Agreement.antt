@@ -9,7 +9,7 @@ use Rattle.constants.specs.declared.Role.the-variants.{Opens}
 use Rattle.iter.specs.Reading.{Rec, readOf}
 use Rattle.chain.specs.Chain.{chainOf}
 use Rattle.chain.specs.declared.Chain.{Chain}
-use Rattle.links.specs.Links.{roleOf}
+use Rattle.kind.specs.Raw.{roleOf}
 use Rattle.check_nesting.specs.declared.Counts.{Counts}
 use Rattle.check_nesting.specs.declared.Checked.the-variants.{Good}
 use Rattle.check_nesting.specs.Check.{checkOf}

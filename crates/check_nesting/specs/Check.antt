@@ -14,7 +14,8 @@ use Rattle.iter.specs.declared.Scan.{Scan}
 use Rattle.iter.specs.declared.Next.{Next}
 use Rattle.iter.specs.declared.Next.the-variants.{End, Refused, Record}
 use Rattle.chain.specs.Chain.{topOf}
-use Rattle.links.specs.Links.{roleOf, linksOf}
+use Rattle.kind.specs.Raw.{roleOf}
+use Rattle.links.specs.Links.{linksOf}
 use Rattle.links.specs.declared.Links.{Links}
 use Rattle.links.specs.declared.Links.the-variants.{Unread, Read}
 use Rattle.check_nesting.specs.declared.Counts.{Counts}

@@ -4,7 +4,8 @@
 ghost use mathlib.Core.Path.{_≡_};
 ghost use Prim.Native.Nat.{_+_, _<_, _^_};
 ghost use Rattle.constants.specs.declared.Role.the-variants.{Opens};
-ghost use Rattle.links.specs.Links.{roleOf, linksOf};
+ghost use Rattle.kind.specs.Raw.{roleOf};
+ghost use Rattle.links.specs.Links.{linksOf};
 ghost use Rattle.check_nesting.specs.Check.{topAt, actOf, openOf, countedOf, openedOf, noCounts, endOf, refuses, checkOf, addsUp};
 use chain::Chain;
 use common::Refusal;
@@ -41,7 +42,7 @@ pub enum Act {
 fn act_at(rec: &[u8], index: usize, opens: &[u32; 64], ends: &[u32; 64], depth: usize) -> Act
     ensures { λ r. ⌜ r ≡ actOf (now (rec .entry)) index depth (topAt (now (opens .entry)) depth) (topAt (now (ends .entry)) depth) ⌝ }
 {
-    match links::role_of(rec) {
+    match kind::role_of(rec) {
         Role::Opens => return open_at(rec, index, depth, innermost(opens, depth)),
         Role::Closes => {
             if depth == 0 {

@@ -5,7 +5,8 @@ ghost use mathlib.Core.Path.{_≡_};
 ghost use mathlib.Core.List.{[]};
 ghost use Rattle.common.specs.Reader.{refusal};
 ghost use Rattle.constants.specs.declared.Role.the-variants.{Opens};
-ghost use Rattle.links.specs.Links.{roleOf, linksOf};
+ghost use Rattle.kind.specs.Raw.{roleOf};
+ghost use Rattle.links.specs.Links.{linksOf};
 ghost use Rattle.climb.specs.Climb.{reachedBy, haltedBy, openerRefused, openerBy, openerOf, climbOn, climbOf};
 use chain::Chain;
 use common::Refusal;
@@ -98,7 +99,7 @@ fn opener_at(s: &[u8], at: usize) -> Opener
             if index != at {
                 return no_opener(14);
             }
-            match links::role_of(&s[from..next]) {
+            match kind::role_of(&s[from..next]) {
                 Role::Opens => return opener_in(&s[from..next]),
                 Role::Closes => return no_opener(14),
                 Role::Neither => return no_opener(14),

@@ -21,7 +21,8 @@ use Rattle.iter.proofs.Reading.{Stepped, step-fits}
 use Rattle.chain.specs.Chain.{chainOf}
 use Rattle.chain.proofs.Laws.{pushed}
 use Rattle.chain.specs.declared.Chain.{Chain}
-use Rattle.links.specs.Links.{roleOf, linksOf}
+use Rattle.kind.specs.Raw.{roleOf}
+use Rattle.links.specs.Links.{linksOf}
 use Rattle.links.specs.declared.Links.{Links}
 use Rattle.links.specs.declared.Links.the-variants as K
 use Rattle.walk.specs.Finding.{Walk, seen, foundBy, refusedBy, answerOf}

@@ -12,7 +12,8 @@ use Rattle.iter.specs.Reading.{Rec, recAt}
 use Rattle.iter.specs.declared.Scan.{Scan}
 use Rattle.iter.specs.declared.Next.{Next}
 use Rattle.iter.specs.declared.Next.the-variants as N
-use Rattle.links.specs.Links.{roleOf, linksOf}
+use Rattle.kind.specs.Raw.{roleOf}
+use Rattle.links.specs.Links.{linksOf}
 use Rattle.links.specs.declared.Links.{Links}
 use Rattle.links.specs.declared.Links.the-variants as K
 use Rattle.walk.specs.Finding.{Walk, seen, refuses, stops, findingOf}

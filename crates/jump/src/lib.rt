@@ -3,7 +3,8 @@
 // As walking, it reads records by steps from a start and changes its chain in place.
 ghost use mathlib.Core.Path.{_≡_};
 ghost use Rattle.constants.specs.declared.Role.the-variants.{Opens};
-ghost use Rattle.links.specs.Links.{roleOf, linksOf};
+ghost use Rattle.kind.specs.Raw.{roleOf};
+ghost use Rattle.links.specs.Links.{linksOf};
 ghost use Rattle.jump.specs.Jump.{openHop, hopOf, missed, landOf, jumpOf};
 use chain::Chain;
 use common::Refusal;
@@ -54,7 +55,7 @@ pub fn hop_at(rec: &[u8], index: usize, next: usize, i: usize, depth: usize) -> 
     if i < index {
         return Hop::Stop(14);
     }
-    match links::role_of(rec) {
+    match kind::role_of(rec) {
         Role::Opens => return hop_open(rec, next, i, depth),
         Role::Closes => return Hop::Stop(13),
         Role::Neither => return Hop::Stay,
@@ -94,7 +95,7 @@ pub fn land_at(s: &[u8], end: usize) -> Land
             if index != end {
                 return astray();
             }
-            match links::role_of(&s[from..next]) {
+            match kind::role_of(&s[from..next]) {
                 Role::Opens => return astray(),
                 Role::Closes => return Land::After(next),
                 Role::Neither => return astray(),

@@ -5,6 +5,12 @@ use mathlib.Core.Bool.{cond}
 use lib.ListN.{length}
 use lib.Dec.{ltb}
 use Rattle.common.specs.Bytes.{le}
+use Rattle.constants.specs.Kind.{nestingRole}
+use Rattle.constants.specs.declared.Role.{Role}
 
 unfoldable pub rawKind : List ℕ → ℕ
 rawKind s = cond (ltb (length s) 2) 0 (le 2 s 0)
+
+-- A scope opener is a record of a kind that the check takes as an opener.
+unfoldable pub roleOf : List ℕ → Role
+roleOf s = nestingRole (rawKind s)

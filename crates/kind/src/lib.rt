@@ -1,7 +1,9 @@
-// What the kind of a record says of it (pdb's Symbol: raw_kind, starts_scope, ends_scope). These never refuse, at any length.
+// What the kind of a record says of it (pdb's Symbol: raw_kind, starts_scope, ends_scope; the role is added). These never refuse, at
+// any length.
 ghost use mathlib.Core.Path.{_≡_};
 ghost use Rattle.constants.specs.Kind.{startsScope, endsScope};
-ghost use Rattle.kind.specs.Raw.{rawKind};
+ghost use Rattle.kind.specs.Raw.{rawKind, roleOf};
+use constants::Role;
 
 // The kind; 0 below 2 bytes.
 pub fn raw_kind(s: &[u8]) -> u16
@@ -23,4 +25,11 @@ pub fn ends_scope(s: &[u8]) -> bool
     ensures { λ r. ⌜ r ≡ endsScope (rawKind (now (s .entry))) ⌝ }
 {
     constants::ends_scope(raw_kind(s))
+}
+
+// What the check and the finders take the record for.
+pub fn role_of(s: &[u8]) -> Role
+    ensures { λ r. ⌜ r ≡ roleOf (now (s .entry)) ⌝ }
+{
+    constants::nesting_role(raw_kind(s))
 }

@@ -16,7 +16,7 @@ use Rattle.constants.specs.declared.Class.{Class}
 use Rattle.constants.specs.declared.Class.the-variants.{Unknown, ScopeEnd, ObjName, RegisterVariable, Constant, UserDefinedType, MultiRegisterVariable, Data, Public, Procedure, ThreadStorage, CompileFlags, UsingNamespace, ProcedureReference, DataReference, AnnotationReference, Trampoline, Export, Local, BuildInfo, InlineSite, InlineSiteEnd, ProcedureEnd, Label, Block, RegisterRelative, Thunk, SeparatedCode}
 use Rattle.constants.specs.declared.Role.the-variants.{Opens}
 use Rattle.constants.proofs.Codes.{agree}
-use Rattle.kind.specs.Raw.{rawKind}
+use Rattle.kind.specs.Raw.{rawKind, roleOf}
 use Rattle.records.specs.Field.{indexOf}
 use Rattle.records.specs.declared.OptionPart.{OptionPart}
 use Rattle.records.specs.declared.OptionU32.the-variants as U32
@@ -26,7 +26,7 @@ use Rattle.thunks.specs.Thunk.{thunk}
 use Rattle.symbol.specs.Decode.{layout, byKind, decode}
 use Rattle.symbol_name.specs.Name.{namedBy, nameOf}
 use Rattle.symbol_name.specs.declared.Named.the-variants as N
-use Rattle.links.specs.Links.{roleOf, parentOf, linksIn, linksBy, linksOf}
+use Rattle.links.specs.Links.{parentOf, linksIn, linksBy, linksOf}
 use Rattle.links.specs.declared.Links.the-variants.{Unread, Read as Fields}
 
 -- what was read has these links

@@ -1,10 +1,7 @@
--- What the check and the finders look at in a record (document 01, "Check", "Jump finder", "Climb finder"): whether it is an opener or a closer, and an opener's links.
+-- What the check and the finders look at in an opener (document 01, "Check", "Jump finder", "Climb finder"): its links.
 use Prim.Native.Nat.{ℕ}
 use mathlib.Core.List.{List}
 use Rattle.common.specs.Reader.{Read, value, refused}
-use Rattle.constants.specs.Kind.{nestingRole}
-use Rattle.constants.specs.declared.Role.{Role}
-use Rattle.kind.specs.Raw.{rawKind}
 use Rattle.records.specs.declared.OptionU32.{OptionU32}
 use Rattle.records.specs.declared.OptionU32.the-variants as U32
 use Rattle.records.specs.declared.SymbolData.{SymbolData}
@@ -12,9 +9,6 @@ use Rattle.records.specs.declared.SymbolData.the-variants as D
 use Rattle.symbol.specs.Decode.{decode}
 use Rattle.links.specs.declared.Links.{Links}
 use Rattle.links.specs.declared.Links.the-variants as L
-
-unfoldable pub roleOf : List ℕ → Role
-roleOf bytes = nestingRole (rawKind bytes)
 
 -- Parents of 0 mean none.
 abbrev pub parentOf : OptionU32 → ℕ

@@ -1,20 +1,14 @@
-// What the check and the finders look at in a record: its role, and, of an opener, its links.
+// What the check and the finders look at in an opener: its links.
 ghost use mathlib.Core.Path.{_≡_};
 ghost use Rattle.constants.specs.declared.Role.the-variants.{Opens};
-ghost use Rattle.links.specs.Links.{roleOf, linksOf};
-use constants::Role;
+ghost use Rattle.kind.specs.Raw.{roleOf};
+ghost use Rattle.links.specs.Links.{linksOf};
 use symbol_name::Named;
 
 // The links of an opener, its parent and end fields; `Unread` where decode refuses the record.
 pub enum Links {
     Unread,
     Read { parent: u32, end: u32 },
-}
-
-pub fn role_of(rec: &[u8]) -> Role
-    ensures { λ r. ⌜ r ≡ roleOf (now (rec .entry)) ⌝ }
-{
-    constants::nesting_role(kind::raw_kind(rec))
 }
 
 // Both fields stand behind the kind in every layout that opens a scope, and name has decode's refusals: no typed record is built.

@@ -19,9 +19,9 @@ use Rattle.symbol.specs.Decode.{layout, byKind, decode}
 use Rattle.iter.specs.Reading.{readFrom, readOf}
 use Rattle.iter.specs.Step.{frameAt, scanFrom, scanOf, stepOf}
 use Rattle.iter.specs.declared.Next.the-variants.{End, Refused}
-use Rattle.kind.specs.Raw.{rawKind}
+use Rattle.kind.specs.Raw.{rawKind, roleOf}
 use Rattle.scopes.specs.Scope as S
-use Rattle.links.specs.Links.{roleOf, linksOf}
+use Rattle.links.specs.Links.{linksOf}
 use Rattle.chain.specs.Chain.{chainOf}
 use Rattle.check_nesting.specs.Check as C
 use Rattle.check_nesting.specs.declared.Checked.the-variants.{Good}

@@ -21,7 +21,7 @@ use Rattle.iter.proofs.Reading.{Stepped, step-fits, read-by}
 use Rattle.chain.specs.Chain.{chainOf}
 use Rattle.chain.specs.declared.Chain.{Chain}
 use Rattle.chain.proofs.Laws.{pushed, popped, pop-tail, length-tail}
-use Rattle.links.specs.Links.{roleOf}
+use Rattle.kind.specs.Raw.{roleOf}
 use Rattle.walk.specs.declared.Turn.{Turn}
 use Rattle.walk.specs.declared.Turn.the-variants.{Stay, Push, Pop, Found, Stop}
 use Rattle.walk.specs.Finding.{Walk, seen, refuses, stops, foundBy, refusedBy, answerOf}

@@ -9,7 +9,7 @@ use Rattle.constants.specs.declared.Role.the-variants.{Neither, Opens, Closes}
 use Rattle.iter.specs.Reading.{Rec, Reading, readOf}
 use Rattle.iter.specs.declared.Next.{Next}
 use Rattle.iter.specs.declared.Next.the-variants as N
-use Rattle.links.specs.Links.{roleOf}
+use Rattle.kind.specs.Raw.{roleOf}
 use Rattle.walk.specs.Finding.{Walk, seen, refuses, stops, findingOf}
 use Rattle.walk.specs.declared.Outcome.the-variants.{Answer}
 use Rattle.walk.specs.declared.Finding.{Finding}

@@ -1,11 +1,11 @@
--- `links::role_of` meets its contract.
+-- `kind::role_of` meets its contract.
 -- Assumes nothing.
 use borrow.Author.Needs.{needs}
 use mathlib.Core.Path.{_∙_, ap}
 use Rattle.constants.specs.Kind.{nestingRole}
-use Rattle.links.specs.Links.{roleOf}
-use Rattle.links.proofs.role_of.Statement.{statement}
-use Rattle.links.proofs.role_of.Tie as tie
+use Rattle.kind.specs.Raw.{roleOf}
+use Rattle.kind.proofs.role_of.Statement.{statement}
+use Rattle.kind.proofs.role_of.Tie as tie
 
 raw-kind-requires : tie.Need-raw-kind-requires
 raw-kind-requires c κs = search needs
