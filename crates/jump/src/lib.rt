@@ -46,7 +46,7 @@ fn hop_open(rec: &[u8], next: usize, i: usize, depth: usize) -> Hop
 }
 
 // The hop at the record `rec` of this index and next position, on the way to i, with so many openers open.
-pub fn hop_at(rec: &[u8], index: usize, next: usize, i: usize, depth: usize) -> Hop
+fn hop_at(rec: &[u8], index: usize, next: usize, i: usize, depth: usize) -> Hop
     ensures { λ r. ⌜ r ≡ hopOf i index next (now (rec .entry)) depth ⌝ }
 {
     if index == i {
@@ -80,7 +80,7 @@ fn astray() -> Land
 }
 
 // The step from an end field.
-pub fn land_at(s: &[u8], end: usize) -> Land
+fn land_at(s: &[u8], end: usize) -> Land
     ensures { λ r. ⌜ r ≡ landOf (now (s .entry)) end ⌝ }
 {
     match iter::step(s, end) {

@@ -65,7 +65,7 @@ pub enum Turn {
 }
 
 // The turn at the record `rec` of this index, on the way to i, with so many openers open.
-pub fn turn_at(rec: &[u8], index: usize, i: usize, depth: usize) -> Turn
+fn turn_at(rec: &[u8], index: usize, i: usize, depth: usize) -> Turn
     ensures { λ r. ⌜ r ≡ turnOf i index (now (rec .entry)) depth ⌝ }
 {
     if index == i {
