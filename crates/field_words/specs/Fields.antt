@@ -24,7 +24,7 @@ abbrev pub signedWord : ℤ → ℕ
 signedWord (pos n) = n
 signedWord (negsuc n) = 2 ^ 64 - suc n
 
--- what may be missing: whether it is there, and what it is, 0 where it is missing
+-- what may be missing: whether it is there, and what it is, 0 where it is missing (for an OptionU32, `orZero32` of records)
 abbrev pub has16 : OptionU16 → ℕ
 has16 O16.None = 0
 has16 (O16.Some x) = 1
@@ -36,10 +36,6 @@ orZero16 (O16.Some x) = x
 abbrev pub has32 : OptionU32 → ℕ
 has32 O32.None = 0
 has32 (O32.Some x) = 1
-
-abbrev pub orZero32 : OptionU32 → ℕ
-orZero32 O32.None = 0
-orZero32 (O32.Some x) = x
 
 abbrev pub hasPart : OptionPart → ℕ
 hasPart OP.None = 0

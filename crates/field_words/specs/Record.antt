@@ -2,6 +2,7 @@
 -- where it starts and its length; a place is its offset and its section.
 use Prim.Native.Nat.{ℕ}
 use mathlib.Core.List.{List, [], _∷_}
+use Rattle.records.specs.Field.{orZero32}
 use Rattle.records.specs.declared.ObjNameSymbol.{ObjNameSymbol}
 use Rattle.records.specs.declared.RegisterVariableSymbol.{RegisterVariableSymbol}
 use Rattle.records.specs.declared.ConstantSymbol.{ConstantSymbol}
@@ -28,7 +29,7 @@ use Rattle.records.specs.declared.ThunkSymbol.{ThunkSymbol}
 use Rattle.records.specs.declared.SeparatedCodeSymbol.{SeparatedCodeSymbol}
 use Rattle.records.specs.declared.SymbolData.{SymbolData}
 use Rattle.records.specs.declared.SymbolData.the-variants as D
-use Rattle.field_words.specs.Fields.{truth, signedWord, has16, orZero16, has32, orZero32, hasPart, startOrZero, lenOrZero, variantNumber, variantValue, trampolineNumber, thunkNumber, thunkValue, targetStart, targetLen}
+use Rattle.field_words.specs.Fields.{truth, signedWord, has16, orZero16, has32, hasPart, startOrZero, lenOrZero, variantNumber, variantValue, trampolineNumber, thunkNumber, thunkValue, targetStart, targetLen}
 use Rattle.field_words.specs.Flags.{publicBits, procedureBits, compileBits, exportBits, localBits, separatedBits}
 
 abbrev pub objName : ObjNameSymbol → List ℕ

@@ -3,7 +3,8 @@ mod put;
 
 ghost use mathlib.Core.Path.{_≡_};
 ghost use Prim.Native.Nat.{_+_, _*_, _<_, _^_};
-ghost use Rattle.field_words.specs.Fields.{truth, has16, orZero16, has32, orZero32, hasPart, startOrZero, lenOrZero, variantNumber, variantValue, trampolineNumber, thunkNumber, thunkValue, targetStart, targetLen};
+ghost use Rattle.records.specs.Field.{orZero32};
+ghost use Rattle.field_words.specs.Fields.{truth, has16, orZero16, has32, hasPart, startOrZero, lenOrZero, variantNumber, variantValue, trampolineNumber, thunkNumber, thunkValue, targetStart, targetLen};
 ghost use Rattle.field_words.specs.Flags.{publicBits, procedureBits, compileBits, exportBits, localBits, separatedBits};
 pub use put::put2;
 pub use put::put3;

@@ -17,7 +17,7 @@ use Rattle.constants.specs.declared.Class.the-variants.{Unknown, ScopeEnd, ObjN
 use Rattle.constants.specs.declared.Role.the-variants.{Opens}
 use Rattle.constants.proofs.Codes.{agree}
 use Rattle.kind.specs.Raw.{rawKind, roleOf}
-use Rattle.records.specs.Field.{indexOf}
+use Rattle.records.specs.Field.{indexOf, orZero32}
 use Rattle.records.specs.declared.OptionPart.{OptionPart}
 use Rattle.records.specs.declared.OptionU32.the-variants as U32
 use Rattle.records.specs.declared.SymbolData.{SymbolData}
@@ -26,7 +26,7 @@ use Rattle.thunks.specs.Thunk.{thunk}
 use Rattle.symbol.specs.Decode.{layout, byKind, decode}
 use Rattle.symbol_name.specs.Name.{namedBy, nameOf}
 use Rattle.symbol_name.specs.declared.Named.the-variants as N
-use Rattle.links.specs.Links.{parentOf, linksIn, linksBy, linksOf}
+use Rattle.links.specs.Links.{linksIn, linksBy, linksOf}
 use Rattle.links.specs.declared.Links.the-variants.{Unread, Read as Fields}
 
 -- what was read has these links
@@ -70,15 +70,15 @@ linked k each s = go (leb 6 (length s)) (leb 10 (length s)) refl
     go false b h = tt
 
 -- a parent field of 0 is none, and none is 0
-index-parent : (x : ℕ) → parentOf (indexOf x) ≡ x
+index-parent : (x : ℕ) → orZero32 (indexOf x) ≡ x
 unfolding indexOf
 index-parent x = go (eqb x 0) refl
   where
-    go : (b : Bool) → eqb x 0 ≡ b → parentOf (cond b U32.None (U32.Some x)) ≡ x
+    go : (b : Bool) → eqb x 0 ≡ b → orZero32 (cond b U32.None (U32.Some x)) ≡ x
     go true e = sym (eqb-true x 0 e)
     go false e = refl
 
-optional : (p e : ℕ) → Fields (parentOf (indexOf p)) e ≡ Fields p e
+optional : (p e : ℕ) → Fields (orZero32 (indexOf p)) e ≡ Fields p e
 optional p e = ap (λ (x : ℕ). Fields x e) (index-parent p)
 
 procedure-linked : (kind : ℕ) (s : List ℕ) → Linked s (procedure kind s 2)

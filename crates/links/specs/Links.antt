@@ -2,18 +2,12 @@
 use Prim.Native.Nat.{ℕ}
 use mathlib.Core.List.{List}
 use Rattle.common.specs.Reader.{Read, value, refused}
-use Rattle.records.specs.declared.OptionU32.{OptionU32}
-use Rattle.records.specs.declared.OptionU32.the-variants as U32
+use Rattle.records.specs.Field.{orZero32}
 use Rattle.records.specs.declared.SymbolData.{SymbolData}
 use Rattle.records.specs.declared.SymbolData.the-variants as D
 use Rattle.symbol.specs.Decode.{decode}
 use Rattle.links.specs.declared.Links.{Links}
 use Rattle.links.specs.declared.Links.the-variants as L
-
--- Parents of 0 mean none.
-abbrev pub parentOf : OptionU32 → ℕ
-parentOf U32.None = 0
-parentOf (U32.Some index) = index
 
 -- the parent and end fields of the records that open a scope; the others have none
 abbrev pub linksIn : SymbolData → Links
@@ -25,7 +19,7 @@ linksIn (D.UserDefinedType x) = L.Unread
 linksIn (D.MultiRegisterVariable x) = L.Unread
 linksIn (D.Data x) = L.Unread
 linksIn (D.Public x) = L.Unread
-linksIn (D.Procedure x) = L.Read (parentOf (x .parent)) (x .end)
+linksIn (D.Procedure x) = L.Read (orZero32 (x .parent)) (x .end)
 linksIn (D.ThreadStorage x) = L.Unread
 linksIn (D.CompileFlags x) = L.Unread
 linksIn (D.UsingNamespace x) = L.Unread
@@ -36,13 +30,13 @@ linksIn (D.Trampoline x) = L.Unread
 linksIn (D.Export x) = L.Unread
 linksIn (D.Local x) = L.Unread
 linksIn (D.BuildInfo x) = L.Unread
-linksIn (D.InlineSite x) = L.Read (parentOf (x .parent)) (x .end)
+linksIn (D.InlineSite x) = L.Read (orZero32 (x .parent)) (x .end)
 linksIn D.InlineSiteEnd = L.Unread
 linksIn D.ProcedureEnd = L.Unread
 linksIn (D.Label x) = L.Unread
 linksIn (D.Block x) = L.Read (x .parent) (x .end)
 linksIn (D.RegisterRelative x) = L.Unread
-linksIn (D.Thunk x) = L.Read (parentOf (x .parent)) (x .end)
+linksIn (D.Thunk x) = L.Read (orZero32 (x .parent)) (x .end)
 linksIn (D.SeparatedCode x) = L.Read (x .parent) (x .end)
 
 -- `Unread` exactly where decode refuses an opener

@@ -14,6 +14,11 @@ use Rattle.records.specs.declared.TrampolineType.the-variants.{Increment
 unfoldable pub indexOf : ℕ → OptionU32
 indexOf x = cond (eqb x 0) U32.None (U32.Some x)
 
+-- parents and nexts of 0 mean none; the way back, for every number that may be missing
+abbrev pub orZero32 : OptionU32 → ℕ
+orZero32 U32.None = 0
+orZero32 (U32.Some x) = x
+
 -- module u16 (0 none, else less one)
 unfoldable pub moduleOf : ℕ → OptionU16
 moduleOf x = cond (eqb x 0) U16.None (U16.Some (x - 1))
