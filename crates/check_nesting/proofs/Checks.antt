@@ -5,7 +5,7 @@ use mathlib.Core.List.{List, [], _∷_, tail}
 use mathlib.Core.Bool.{Bool, true, false, cond}
 use Prim.Native.Nat.{ℕ, suc, _+_, _-_, _≤_, _<_}
 use native.Mathlib.Omega.{arith}
-use lib.ListN.{length, take, drop, set}
+use lib.ListN.{length, take, drop, set, replicate}
 use lib.Dec.{ltb, leb, eqb}
 use borrow.Author.Tests.{leb-false, eqb-false, lt-ltb, ltb-true}
 use Rattle.common.specs.declared.Refusal.{Refusal}
@@ -48,7 +48,7 @@ module _ (field : Open → ℕ) where
   top-each : (o : Open) (st : List Open) → length (o ∷ st) ≤ 64 → topOf (chainOf (each (o ∷ st))) ≡ field o
   top-each o st h = top-stack (each st) (field o) (omega (arith, length-each st))
 
--- the two chains of a stack
+-- the indexes and the end fields of a stack
 abbrev pub indexes : List Open → List ℕ
 indexes = each (λ o. o .index)
 
@@ -132,11 +132,11 @@ pub check-more : (r : Rec) (rest reading : Reading) (st : List Open) (n : Counts
 unfolding checkFrom checkOn
 check-more r rest reading st n e = ap (λ (x : Reading). checkFrom x st n) e
 
--- The loop's invariant: the chains are those of a stack, and the check from the start answers what the check from here does.
-pub record Checking (s : List ℕ) (start : ℕ) (opens ends-of : Chain) (n : Counts) (at : ℕ) : Type 0 where
+-- The loop's invariant: the indexes and the ends are those of a stack, and the check from the start answers what the check from here does.
+pub record Checking (s : List ℕ) (start : ℕ) (opens : Chain) (ends-of : List ℕ) (n : Counts) (at : ℕ) : Type 0 where
   pub stack : List Open
   pub is-opens : opens ≡ chainOf (indexes stack)
-  pub is-ends : ends-of ≡ chainOf (ends stack)
+  pub is-ends : record { at = ends-of; depth = opens .depth } ≡ chainOf (ends stack)
   pub most : length stack ≤ 64
   pub same : checkFrom (readOf s at) stack n ≡ checkOf s start
   pub records : n .records + (length s - at) ≤ length s
@@ -144,14 +144,14 @@ pub record Checking (s : List ℕ) (start : ℕ) (opens ends-of : Chain) (n : Co
   pub passed : n .passed ≤ n .skipped
   pub openers : n .openers ≤ n .records
 
-pub checking-first : (s : List ℕ) (start : ℕ) (opens ends-of : Chain) → opens ≡ chainOf [] → ends-of ≡ chainOf [] →
+pub checking-first : (s : List ℕ) (start : ℕ) (opens : Chain) (ends-of : List ℕ) → opens ≡ chainOf [] → ends-of ≡ replicate 64 0 →
     Checking s start opens ends-of noCounts start
-unfolding checkOf noCounts
+unfolding checkOf noCounts chainOf
 checking-first s start opens ends-of eo ee =
     record {
       stack = [];
       is-opens = eo;
-      is-ends = ee;
+      is-ends = rw (eo, ee);
       most = omega arith;
       same = refl;
       records = omega arith;
@@ -161,22 +161,18 @@ checking-first s start opens ends-of eo ee =
     }
 
 -- a turn of the loop: the step c that it makes, and the record that this yields
-pub record Turn (s : List ℕ) (start : ℕ) (opens ends-of : Chain) (n : Counts) (at : ℕ) (c : Scan) : Type 0 where
+pub record Turn (s : List ℕ) (start : ℕ) (opens : Chain) (ends-of : List ℕ) (n : Counts) (at : ℕ) (c : Scan) : Type 0 where
   pub inv : Checking s start opens ends-of n at
   pub scan : c ≡ scanOf s at
 
-pub record Yields (s : List ℕ) (start : ℕ) (opens ends-of : Chain) (n : Counts) (at : ℕ) (c : Scan) (index from len next : ℕ) : Type 0 where
+pub record Yields (s : List ℕ) (start : ℕ) (opens : Chain) (ends-of : List ℕ) (n : Counts) (at : ℕ) (c : Scan) (index from len next : ℕ) : Type 0 where
   pub turn : Turn s start opens ends-of n at c
   pub yields : c .next ≡ Record index from len next
 
-module _ {s : List ℕ} {start : ℕ} {opens ends-of : Chain} {n : Counts} {at : ℕ} {c : Scan} (t : Turn s start opens ends-of n at c) where
+module _ {s : List ℕ} {start : ℕ} {opens : Chain} {ends-of : List ℕ} {n : Counts} {at : ℕ} {c : Scan} (t : Turn s start opens ends-of n at c) where
   depth : opens .depth ≡ length (t .inv .stack)
   unfolding chainOf
   depth = ap (λ (x : Chain). x .depth) (t .inv .is-opens) ∙ length-each (λ o. o .index) (t .inv .stack)
-
-  ends-depth : ends-of .depth ≡ opens .depth
-  unfolding chainOf
-  ends-depth = ap (λ (x : Chain). x .depth) (t .inv .is-ends) ∙ length-each (λ o. o .end) (t .inv .stack) ∙ sym depth
 
   pub depth-most : opens .depth ≤ 64
   depth-most = omega (arith, depth, t .inv .most)
@@ -184,11 +180,11 @@ module _ {s : List ℕ} {start : ℕ} {opens ends-of : Chain} {n : Counts} {at :
   inner : topOf opens ≡ innerIndex (t .inv .stack)
   inner = ap topOf (t .inv .is-opens) ∙ top-index (t .inv .stack) (t .inv .most)
 
-  inner-end : topOf (record { at = ends-of .at; depth = opens .depth }) ≡ innerEnd (t .inv .stack)
-  inner-end = ap (λ (x : ℕ). topOf (record { at = ends-of .at; depth = x })) (sym ends-depth) ∙ ap topOf (t .inv .is-ends) ∙ top-end (t .inv .stack) (t .inv .most)
+  inner-end : topOf (record { at = ends-of; depth = opens .depth }) ≡ innerEnd (t .inv .stack)
+  inner-end = ap topOf (t .inv .is-ends) ∙ top-end (t .inv .stack) (t .inv .most)
 
   same-act : (bytes : List ℕ) (index : ℕ) →
-      actOf bytes index (opens .depth) (topOf opens) (topOf (record { at = ends-of .at; depth = opens .depth }))
+      actOf bytes index (opens .depth) (topOf opens) (topOf (record { at = ends-of; depth = opens .depth }))
       ≡ actOf bytes index (length (t .inv .stack)) (innerIndex (t .inv .stack)) (innerEnd (t .inv .stack))
   same-act bytes index = rw (inner, inner-end, depth)
 
@@ -209,7 +205,7 @@ module _ {s : List ℕ} {start : ℕ} {opens ends-of : Chain} {n : Counts} {at :
   pub at-end : {p : ℕ} → c .next ≡ End p → endOf n (c .passed) (c .skipped) (opens .depth) (topOf opens) ≡ checkOf s start
   at-end {p} e = rw (inner, depth) (last (End p) e (reading (End p) e))
 
-module _ {s : List ℕ} {start : ℕ} {opens ends-of : Chain} {n : Counts} {at : ℕ} {c : Scan} {index from len next : ℕ}
+module _ {s : List ℕ} {start : ℕ} {opens : Chain} {ends-of : List ℕ} {n : Counts} {at : ℕ} {c : Scan} {index from len next : ℕ}
     (y : Yields s start opens ends-of n at c index from len next) where
   abbrev stack : List Open
   stack = y .turn .inv .stack
@@ -219,7 +215,7 @@ module _ {s : List ℕ} {start : ℕ} {opens ends-of : Chain} {n : Counts} {at :
 
   -- what is done with the record
   abbrev pub act : Act
-  act = actOf (take len (drop from s)) index (opens .depth) (topOf opens) (topOf (record { at = ends-of .at; depth = opens .depth }))
+  act = actOf (take len (drop from s)) index (opens .depth) (topOf opens) (topOf (record { at = ends-of; depth = opens .depth }))
 
   pub found : Found s at c index from len next
   found = found-bounds s at c index from len next (y .turn .scan) (y .yields)
@@ -258,17 +254,16 @@ module _ {s : List ℕ} {start : ℕ} {opens ends-of : Chain} {n : Counts} {at :
         openers = omega (arith, y .turn .inv .openers);
       }
 
-  -- the chains after the stores that a push and a pop make
+  -- the stack after the stores that a push and a pop make
   pub go-pop : act ≡ Pop →
       Checking s start
       (record { at = set (opens .at) (opens .depth - 1) 0; depth = opens .depth - 1 })
-      (record { at = set (ends-of .at) (opens .depth - 1) 0; depth = opens .depth - 1 })
+      (set ends-of (opens .depth - 1) 0)
       (countedOf n (c .passed) (c .skipped) len) next
   unfolding countedOf
   go-pop ea =
       let z : opens .depth ≡ 0 → ⊥ = pop-room ea in
       let d = depth (y .turn) in
-      let e = ends-depth (y .turn) in
       let li = length-each (λ o. o .index) stack in
       let le = length-each (λ o. o .end) stack in
       record {
@@ -279,8 +274,7 @@ module _ {s : List ℕ} {start : ℕ} {opens ends-of : Chain} {n : Counts} {at :
             ∙ pop-tail (indexes stack) (omega (arith, y .turn .inv .most)) (λ q. z (omega arith))
             ∙ ap chainOf (tail-each (λ o. o .index) stack);
         is-ends =
-            ap (λ (x : ℕ). record { at = set (ends-of .at) (x - 1) 0; depth = x - 1 }) (sym e)
-            ∙ popped-is ends-of (λ q. z (sym e ∙ q)) (omega (arith, e, depth-most (y .turn)))
+            popped-is (record { at = ends-of; depth = opens .depth }) z (depth-most (y .turn))
             ∙ ap popped (y .turn .inv .is-ends)
             ∙ pop-tail (ends stack) (omega (arith, y .turn .inv .most)) (λ q. z (omega arith))
             ∙ ap chainOf (tail-each (λ o. o .end) stack);
@@ -295,13 +289,12 @@ module _ {s : List ℕ} {start : ℕ} {opens ends-of : Chain} {n : Counts} {at :
   pub go-push : {end : ℕ} → act ≡ Push end →
       Checking s start
       (record { at = set (opens .at) (opens .depth) index; depth = opens .depth + 1 })
-      (record { at = set (ends-of .at) (opens .depth) end; depth = opens .depth + 1 })
+      (set ends-of (opens .depth) end)
       (openedOf (countedOf n (c .passed) (c .skipped) len) (opens .depth)) next
   unfolding countedOf openedOf
   go-push {end} ea =
       let h : opens .depth < 64 = push-room ea in
       let d = depth (y .turn) in
-      let e = ends-depth (y .turn) in
       let li = length-each (λ o. o .index) stack in
       let le = length-each (λ o. o .end) stack in
       record {
@@ -311,8 +304,7 @@ module _ {s : List ℕ} {start : ℕ} {opens ends-of : Chain} {n : Counts} {at :
             ∙ ap (λ (x : Chain). pushed x index) (y .turn .inv .is-opens)
             ∙ push-stack (indexes stack) index (omega arith);
         is-ends =
-            ap (λ (x : ℕ). record { at = set (ends-of .at) x end; depth = x + 1 }) (sym e)
-            ∙ pushed-is ends-of end (omega arith)
+            pushed-is (record { at = ends-of; depth = opens .depth }) end h
             ∙ ap (λ (x : Chain). pushed x end) (y .turn .inv .is-ends)
             ∙ push-stack (ends stack) end (omega arith);
         most = omega arith;

@@ -1,8 +1,9 @@
 // The nesting check: whether the links of a stream's openers say how its records lie in one another, and what it holds.
 //
-// The stack of open openers is two chains, of their indexes and of their end fields, changed in place in the loop.
+// The stack of open openers is the chain of their indexes, and their end fields in the same places of an array, both changed in place.
 ghost use mathlib.Core.Path.{_≡_};
-ghost use Prim.Native.Nat.{_+_, _<_, _^_};
+ghost use Prim.Native.Nat.{_+_, _-_, _<_, _≤_, _^_};
+ghost use lib.ListN.{set};
 ghost use Rattle.constants.specs.declared.Role.the-variants.{Opens};
 ghost use Rattle.kind.specs.Raw.{roleOf};
 ghost use Rattle.links.specs.Links.{linksOf};
@@ -166,12 +167,26 @@ fn innermost(at: &[u32; 64], depth: usize) -> u32
     at[last]
 }
 
+// Frees the place of the innermost opener; how many are open then.
+fn pop(opens: &mut [u32; 64], ends: &mut [u32; 64], depth: usize) -> usize
+    requires { ⌜ 0 < depth ⌝ }
+    requires { ⌜ depth ≤ 64 ⌝ }
+    ensures { λ r. ⌜ r ≡ depth - 1 ⌝ }
+    ensures { λ r. ⌜ now (opens .exit) ≡ set (now (opens .entry)) (depth - 1) 0 ⌝ }
+    ensures { λ r. ⌜ now (ends .exit) ≡ set (now (ends .entry)) (depth - 1) 0 ⌝ }
+{
+    let last = depth - 1;
+    opens[last] = 0;
+    ends[last] = 0;
+    last
+}
+
 pub fn check(s: &[u8], start: usize) -> Checked
     ensures { λ r. ⌜ r ≡ checkOf (now (s .entry)) start ⌝ }
     ensures { λ r. ⌜ addsUp r (now (s .entry)) start ⌝ }
 {
     let mut opens = Chain::new();
-    let mut ends = Chain::new();
+    let mut ends = [0u32; 64];
     let mut n = no_counts();
     let mut at = start;
     loop {
@@ -189,21 +204,15 @@ pub fn check(s: &[u8], start: usize) -> Checked
             } => {
                 n = counted(n, c, len);
                 at = next;
-                match act_at(&s[from..next], index, &opens.at, &ends.at, depth) {
+                match act_at(&s[from..next], index, &opens.at, &ends, depth) {
                     Act::Stay => {}
                     Act::Push(end) => {
                         opens.at[depth] = index as u32;
                         opens.depth = depth + 1;
-                        ends.at[depth] = end;
-                        ends.depth = depth + 1;
+                        ends[depth] = end;
                         n = opened(n, depth);
                     }
-                    Act::Pop => {
-                        opens.at[depth - 1] = 0;
-                        opens.depth = depth - 1;
-                        ends.at[depth - 1] = 0;
-                        ends.depth = depth - 1;
-                    }
+                    Act::Pop => opens.depth = pop(&mut opens.at, &mut ends, depth),
                     Act::Refused(number) => return refused(number, index),
                 }
             }

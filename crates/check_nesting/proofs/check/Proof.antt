@@ -1,7 +1,7 @@
 -- `check_nesting::check` meets its contract.
 -- Assumes nothing.
 use borrow.Author.Needs.{needs}
-use mathlib.Core.Path.{_≡_, sym, _∙_, ap}
+use mathlib.Core.Path.{_≡_, refl, sym, _∙_, ap}
 use mathlib.Core.List.{List}
 use Prim.Native.Nat.{ℕ, _-_, _<_}
 use lib.ListN.{length}
@@ -22,27 +22,27 @@ abbrev μ-loop : tie.MeasureT-loop
 
 -- the step that was made
 turnAt : (c : tie.After-scan-at Inv-loop μ-loop) →
-    Turn (c .before .before .before .before .before .before .args .s .now) (c .before .before .before .before .before .before .args .start) (c .before .loop .opens) (c .before .loop .ends) (c .before .loop .n) (c .before .loop .at) (c .scan-at .result)
+    Turn (c .before .before .before .before .before .args .s .now) (c .before .before .before .before .before .args .start) (c .before .loop .opens) (c .before .loop .ends) (c .before .loop .n) (c .before .loop .at) (c .scan-at .result)
 turnAt c = record { inv = c .before .loop .inv; scan = c .scan-at .ensures }
 
 -- the record that it yields
 recordAt : (c : tie.After-known-told2 Inv-loop μ-loop) →
-    Yields (c .before .before .before .before .before .before .before .before .before .args .s .now) (c .before .before .before .before .before .before .before .before .before .args .start) (c .before .before .before .before .loop .opens) (c .before .before .before .before .loop .ends) (c .before .before .before .before .loop .n) (c .before .before .before .before .loop .at) (c .before .before .before .scan-at .result)
+    Yields (c .before .before .before .before .before .before .before .before .args .s .now) (c .before .before .before .before .before .before .before .before .args .start) (c .before .before .before .before .loop .opens) (c .before .before .before .before .loop .ends) (c .before .before .before .before .loop .n) (c .before .before .before .before .loop .at) (c .before .before .before .scan-at .result)
     (c .before .found2 .given .0 .0) (c .before .found2 .given .0 .1 .0) (c .before .found2 .given .0 .1 .1 .0) (c .before .found2 .given .0 .1 .1 .1 .0)
 recordAt c = record { turn = turnAt (c .before .before .before); yields = c .before .found2 .given .1 }
 
 -- what is done with it, on its own bytes
-acted : (c : tie.After-act-at Inv-loop μ-loop) → c .act-at .result ≡ act (recordAt (c .before .before .before .before .before .before .before))
+acted : (c : tie.After-act-at Inv-loop μ-loop) → c .act-at .result ≡ act (recordAt (c .before .before .before .before .before .before))
 acted c =
-    let e : c .before .before .before .before .before .before .before .before .found2 .given .0 .1 .1 .1 .0 - c .before .before .before .before .before .before .before .before .found2 .given .0 .1 .0 ≡ c .before .before .before .before .before .before .before .before .found2 .given .0 .1 .1 .0 = omega (arith, found (recordAt (c .before .before .before .before .before .before .before))) in
+    let e : c .before .before .before .before .before .before .before .found2 .given .0 .1 .1 .1 .0 - c .before .before .before .before .before .before .before .found2 .given .0 .1 .0 ≡ c .before .before .before .before .before .before .before .found2 .given .0 .1 .1 .0 = omega (arith, found (recordAt (c .before .before .before .before .before .before))) in
     c .act-at .ensures ∙ rw e
 
 -- a push finds room, and a pop an open opener
-pushRoom : (c : tie.After-known-told3 Inv-loop μ-loop) → c .before .before .before .before .before .before .before .before .before .before .before .before .before .before .loop .opens .depth < 64
-pushRoom c = push-room (recordAt (c .before .before .before .before .before .before .before .before .before .before)) (sym (acted (c .before .before .before)) ∙ c .before .end .given .1)
+pushRoom : (c : tie.After-known-told3 Inv-loop μ-loop) → c .before .before .before .before .before .before .before .before .before .before .before .before .before .loop .opens .depth < 64
+pushRoom c = push-room (recordAt (c .before .before .before .before .before .before .before .before .before)) (sym (acted (c .before .before .before)) ∙ c .before .end .given .1)
 
-popRoom : (c : tie.After-enum-told3 Inv-loop μ-loop) → c .before .before .before .before .before .before .before .before .before .before .before .before .before .loop .opens .depth ≡ 0 → ⊥
-popRoom c = pop-room (recordAt (c .before .before .before .before .before .before .before .before .before)) (sym (acted (c .before .before)) ∙ c .enum-told3 .given .1)
+popRoom : (c : tie.After-enum-told3 Inv-loop μ-loop) → c .before .before .before .before .before .before .before .before .before .before .before .before .loop .opens .depth ≡ 0 → ⊥
+popRoom c = pop-room (recordAt (c .before .before .before .before .before .before .before .before)) (sym (acted (c .before .before)) ∙ c .enum-told3 .given .1)
 
 -- the answer is the definition's, and its sums add up
 both : (s : List ℕ) (start : ℕ) (r : Checked) → r ≡ checkOf s start → (r ≡ checkOf s start) × addsUp r s start
@@ -51,14 +51,11 @@ both s start r e = (e, sums s start r e)
 new-requires : tie.Need-new-requires Inv-loop μ-loop
 new-requires c κs = search needs
 
-new-requires-2 : tie.Need-new-requires-2 Inv-loop μ-loop
-new-requires-2 c κs = search needs
-
 no-counts-requires : tie.Need-no-counts-requires Inv-loop μ-loop
 no-counts-requires c κs = search needs
 
 loop-holds : tie.Need-loop-holds Inv-loop μ-loop
-loop-holds c = rw (c .no-counts .ensures) (checking-first _ _ _ _ (c .before .before .new .ensures) (c .before .new2 .ensures))
+loop-holds c = rw (c .no-counts .ensures) (checking-first _ _ _ _ (c .before .new .ensures) refl)
 
 scan-at-requires : tie.Need-scan-at-requires Inv-loop μ-loop
 scan-at-requires c κs = search needs
@@ -103,16 +100,16 @@ enum-told-2 : tie.Need-enum-told-2 Inv-loop μ-loop
 enum-told-2 c = search needs
 
 loop-less : tie.Need-loop-less Inv-loop μ-loop
-loop-less c = omega (arith, found (recordAt (c .before .before .before .before .before .before .before .before .before)))
+loop-less c = omega (arith, found (recordAt (c .before .before .before .before .before .before .before .before)))
 
 loop-again : tie.Need-loop-again Inv-loop μ-loop
-loop-again c = rw (c .before .before .before .before .before .before .before .before .counted .ensures) (go-stay (recordAt (c .before .before .before .before .before .before .before .before .before)) (sym (acted (c .before .before)) ∙ c .enum-told2 .given .1))
+loop-again c = rw (c .before .before .before .before .before .before .before .counted .ensures) (go-stay (recordAt (c .before .before .before .before .before .before .before .before)) (sym (acted (c .before .before)) ∙ c .enum-told2 .given .1))
 
 enum-known-end : tie.Need-enum-known-end Inv-loop μ-loop
 enum-known-end c = search needs
 
 cast-opens : tie.Need-cast-opens Inv-loop μ-loop
-cast-opens c = omega (arith, found (recordAt (c .before .before .before .before .before .before .before .before .before .before)))
+cast-opens c = omega (arith, found (recordAt (c .before .before .before .before .before .before .before .before .before)))
 
 mul-opens : tie.Need-mul-opens Inv-loop μ-loop
 mul-opens c = omega (arith, pushRoom c)
@@ -126,55 +123,31 @@ add-opens c = omega (arith, pushRoom c)
 mul-ends : tie.Need-mul-ends Inv-loop μ-loop
 mul-ends c = omega (arith, pushRoom c)
 
-element-write-ends : tie.Need-element-write-ends Inv-loop μ-loop
-element-write-ends c = omega (arith, pushRoom c)
-
-add-ends : tie.Need-add-ends Inv-loop μ-loop
-add-ends c = omega (arith, pushRoom c)
+array-write-ends : tie.Need-array-write-ends Inv-loop μ-loop
+array-write-ends c = omega (arith, pushRoom c)
 
 opened-requires : tie.Need-opened-requires Inv-loop μ-loop
 unfolding countedOf
-opened-requires c κs = let o : c .before .before .before .before .before .before .before .before .before .counted .result .openers ≡ c .before .before .before .before .before .before .before .before .before .before .before .before .before .before .loop .n .openers = ap (λ (m : Counts). m .openers) (c .before .before .before .before .before .before .before .before .before .counted .ensures) in
-    omega (arith, turnAt (c .before .before .before .before .before .before .before .before .before .before .before .before .before) .inv, found (recordAt (c .before .before .before .before .before .before .before .before .before .before)), pushRoom c)
+opened-requires c κs = let o : c .before .before .before .before .before .before .before .before .counted .result .openers ≡ c .before .before .before .before .before .before .before .before .before .before .before .before .before .loop .n .openers = ap (λ (m : Counts). m .openers) (c .before .before .before .before .before .before .before .before .counted .ensures) in
+    omega (arith, turnAt (c .before .before .before .before .before .before .before .before .before .before .before .before) .inv, found (recordAt (c .before .before .before .before .before .before .before .before .before)), pushRoom c)
 
 loop-less-2 : tie.Need-loop-less-2 Inv-loop μ-loop
-loop-less-2 c = omega (arith, found (recordAt (c .before .before .before .before .before .before .before .before .before .before .before)))
+loop-less-2 c = omega (arith, found (recordAt (c .before .before .before .before .before .before .before .before .before .before)))
 
 loop-again-2 : tie.Need-loop-again-2 Inv-loop μ-loop
-loop-again-2 c = rw (c .opened .ensures, c .before .before .before .before .before .before .before .before .before .before .counted .ensures) (go-push (recordAt (c .before .before .before .before .before .before .before .before .before .before .before)) (sym (acted (c .before .before .before .before)) ∙ c .before .before .end .given .1))
+loop-again-2 c = rw (c .opened .ensures, c .before .before .before .before .before .before .before .before .before .counted .ensures) (go-push (recordAt (c .before .before .before .before .before .before .before .before .before .before)) (sym (acted (c .before .before .before .before)) ∙ c .before .before .end .given .1))
 
 enum-told-3 : tie.Need-enum-told-3 Inv-loop μ-loop
 enum-told-3 c = search needs
 
-sub-opens : tie.Need-sub-opens Inv-loop μ-loop
-sub-opens c = omega (arith, popRoom c)
-
-mul-opens-2 : tie.Need-mul-opens-2 Inv-loop μ-loop
-mul-opens-2 c = omega (arith, popRoom c, depth-most (turnAt (c .before .before .before .before .before .before .before .before .before .before .before .before)))
-
-element-write-opens-2 : tie.Need-element-write-opens-2 Inv-loop μ-loop
-element-write-opens-2 c = omega (arith, popRoom c, depth-most (turnAt (c .before .before .before .before .before .before .before .before .before .before .before .before)))
-
-sub-opens-2 : tie.Need-sub-opens-2 Inv-loop μ-loop
-sub-opens-2 c = omega (arith, popRoom c)
-
-sub-ends : tie.Need-sub-ends Inv-loop μ-loop
-sub-ends c = omega (arith, popRoom c)
-
-mul-ends-2 : tie.Need-mul-ends-2 Inv-loop μ-loop
-mul-ends-2 c = omega (arith, popRoom c, depth-most (turnAt (c .before .before .before .before .before .before .before .before .before .before .before .before)))
-
-element-write-ends-2 : tie.Need-element-write-ends-2 Inv-loop μ-loop
-element-write-ends-2 c = omega (arith, popRoom c, depth-most (turnAt (c .before .before .before .before .before .before .before .before .before .before .before .before)))
-
-sub-ends-2 : tie.Need-sub-ends-2 Inv-loop μ-loop
-sub-ends-2 c = omega (arith, popRoom c)
+pop-requires : tie.Need-pop-requires Inv-loop μ-loop
+pop-requires c κs = omega (arith, popRoom (c .before .before), depth-most (turnAt (c .before .before .before .before .before .before .before .before .before .before .before .before .before)))
 
 loop-less-3 : tie.Need-loop-less-3 Inv-loop μ-loop
-loop-less-3 c = omega (arith, found (recordAt (c .before .before .before .before .before .before .before .before .before)))
+loop-less-3 c = omega (arith, found (recordAt (c .before .before .before .before .before .before .before .before .before .before .before)))
 
 loop-again-3 : tie.Need-loop-again-3 Inv-loop μ-loop
-loop-again-3 c = rw (c .before .before .before .before .before .before .before .before .counted .ensures) (go-pop (recordAt (c .before .before .before .before .before .before .before .before .before)) (sym (acted (c .before .before)) ∙ c .enum-told3 .given .1))
+loop-again-3 c = rw (c .pop .ensures .0, c .pop .ensures .1 .0, c .pop .ensures .1 .1, c .before .before .before .before .before .before .before .before .before .before .counted .ensures) (go-pop (recordAt (c .before .before .before .before .before .before .before .before .before .before .before)) (sym (acted (c .before .before .before .before .before)) ∙ c .before .before .before .enum-told3 .given .1))
 
 enum-known-number : tie.Need-enum-known-number Inv-loop μ-loop
 enum-known-number c = search needs
@@ -183,7 +156,7 @@ refused-requires : tie.Need-refused-requires Inv-loop μ-loop
 refused-requires c κs = search needs
 
 returns-3 : tie.Need-returns-3 Inv-loop μ-loop
-returns-3 c = both _ _ _ (c .refused .ensures ∙ at-stop (recordAt (c .before .before .before .before .before .before .before .before .before .before .before)) (sym (acted (c .before .before .before .before)) ∙ c .before .before .number .given .1))
+returns-3 c = both _ _ _ (c .refused .ensures ∙ at-stop (recordAt (c .before .before .before .before .before .before .before .before .before .before)) (sym (acted (c .before .before .before .before)) ∙ c .before .before .number .given .1))
 
 pub check-spec : {M : Type 1} → statement M
 check-spec =
@@ -192,7 +165,6 @@ check-spec =
     Inv-loop
     μ-loop
     new-requires
-    new-requires-2
     no-counts-requires
     loop-holds
     scan-at-requires
@@ -217,20 +189,12 @@ check-spec =
     element-write-opens
     add-opens
     mul-ends
-    element-write-ends
-    add-ends
+    array-write-ends
     opened-requires
     loop-less-2
     loop-again-2
     enum-told-3
-    sub-opens
-    mul-opens-2
-    element-write-opens-2
-    sub-opens-2
-    sub-ends
-    mul-ends-2
-    element-write-ends-2
-    sub-ends-2
+    pop-requires
     loop-less-3
     loop-again-3
     enum-known-number
