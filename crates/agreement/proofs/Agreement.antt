@@ -14,7 +14,7 @@ use Rattle.iter.specs.declared.Next.the-variants as N
 use Rattle.iter.proofs.Reading.{step-fits, read-by}
 use Rattle.iter.proofs.Records.{Rising, rising}
 use Rattle.chain.specs.Chain.{chainOf}
-use Rattle.kind.specs.Raw.{roleOf}
+use Rattle.kind.specs.Raw.{nestingRoleOf}
 use Rattle.walk.specs.Finding.{Walk, seen, foundBy, refusedBy, answerOf, findingOf}
 use Rattle.walk.specs.declared.Outcome.{Outcome}
 use Rattle.walk.specs.declared.Outcome.the-variants.{Answer, Refused}
@@ -66,7 +66,7 @@ module _ (s : List ℕ) (i : ℕ) where
   Is r = r .index ≡ i
 
   abbrev IsOpener : Rec → Type 0
-  IsOpener r = (r .index ≡ i) × (roleOf (r .bytes) ≡ Opens)
+  IsOpener r = (r .index ≡ i) × (nestingRoleOf (r .bytes) ≡ Opens)
 
   -- the walk from p, with the openers st open
   abbrev walk-from : ℕ → List Open → Walk
@@ -101,7 +101,7 @@ module _ (s : List ℕ) (i : ℕ) where
         let f : next ≤ i = some-from P i at next (readOf s next .recs) (rising s next) b in
         absurd (omega arith)
 
-    meets : (index < i → Met p st) → (index ≡ i → roleOf (bytesAt s from len) ≡ Opens → climbOf s i ≡ reachedBy (chainOf (reverse (idxs st)))) → Met p st
+    meets : (index < i → Met p st) → (index ≡ i → nestingRoleOf (bytesAt s from len) ≡ Opens → climbOf s i ≡ reachedBy (chainOf (reverse (idxs st)))) → Met p st
     meets before climbs = by (order index i)
       where
         by : Order index i → Met p st

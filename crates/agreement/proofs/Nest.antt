@@ -17,7 +17,7 @@ use Rattle.iter.specs.Reading.{Reading, recAt, more, readOf}
 use Rattle.iter.specs.declared.Next.{Next}
 use Rattle.iter.specs.declared.Next.the-variants as N
 use Rattle.iter.proofs.Records.{read-ind}
-use Rattle.kind.specs.Raw.{roleOf}
+use Rattle.kind.specs.Raw.{nestingRoleOf}
 use Rattle.links.specs.Links.{linksOf}
 use Rattle.links.specs.declared.Links.{Links}
 use Rattle.links.specs.declared.Links.the-variants.{Unread, Read}
@@ -38,12 +38,12 @@ openAt index end = record { index = index; end = end }
 pub data Nest (s : List ℕ) : ℕ → List Open → Type 0 where
   done : {p q : ℕ} → scanOf s p .next ≡ N.End q → Nest s p []
   passes : {p index from len next : ℕ} {st : List Open} → scanOf s p .next ≡ N.Record index from len next →
-      roleOf (bytesAt s from len) ≡ Neither → Nest s next st → Nest s p st
+      nestingRoleOf (bytesAt s from len) ≡ Neither → Nest s next st → Nest s p st
   opens : {p index from len next parent end : ℕ} {st : List Open} → scanOf s p .next ≡ N.Record index from len next →
-      roleOf (bytesAt s from len) ≡ Opens → linksOf (bytesAt s from len) ≡ Read parent end →
+      nestingRoleOf (bytesAt s from len) ≡ Opens → linksOf (bytesAt s from len) ≡ Read parent end →
       0 < index → parent ≡ innerIndex st → length st < 64 → Nest s next (openAt index end ∷ st) → Nest s p st
   closes : {p index from len next : ℕ} {o : Open} {st : List Open} → scanOf s p .next ≡ N.Record index from len next →
-      roleOf (bytesAt s from len) ≡ Closes → o .end ≡ index → Nest s next st → Nest s p (o ∷ st)
+      nestingRoleOf (bytesAt s from len) ≡ Closes → o .end ≡ index → Nest s next st → Nest s p (o ∷ st)
 
 not-good : {e : Refusal} {n : Counts} → Refuse e ≡ Good n → ⊥
 not-good q = let z : _≡_ {A = ℕ} 0 1 = cc in omega arith
@@ -60,7 +60,7 @@ module _ (s : List ℕ) (u : Counts) where
     abbrev Then : List Open → Counts → Act → Type 0
     Then st n a = onAct (recAt s (scanOf s at) index from len) st n a (λ st' n'. checkFrom (readOf s next) st' n') ≡ Good u
 
-    at-opener : (st : List Open) (n : Counts) → roleOf bytes ≡ Opens → (l : Links) → linksOf bytes ≡ l →
+    at-opener : (st : List Open) (n : Counts) → nestingRoleOf bytes ≡ Opens → (l : Links) → linksOf bytes ≡ l →
         Then st n (openOf l index (length st) (innerIndex st)) → Nest s at st
     at-opener st n o Unread g h = absurd (not-good h)
     at-opener st n o (Read parent end) g h = by (eqb index 0) refl (eqb parent (innerIndex st)) refl (leb 64 (length st)) refl h
@@ -74,7 +74,7 @@ module _ (s : List ℕ) (u : Counts) where
             let f : ¬ (index ≡ 0) = eqb-false index 0 ea in
             opens e o g (omega arith) (eqb-true _ _ eb) (leb-false _ _ ec) (ih _ _ t)
 
-    at-closer : (st : List Open) (n : Counts) → roleOf bytes ≡ Closes →
+    at-closer : (st : List Open) (n : Counts) → nestingRoleOf bytes ≡ Closes →
         Then st n (cond (eqb (length st) 0) (Stop 10) (cond (eqb (innerEnd st) index) Pop (Stop 11))) → Nest s at st
     at-closer [] n o h = absurd (not-good h)
     at-closer (x ∷ st) n o h = by (eqb (suc (length st)) 0) (eqb (x .end) index) refl h
@@ -84,7 +84,7 @@ module _ (s : List ℕ) (u : Counts) where
         by false true eb t = closes e o (eqb-true _ _ eb) (ih st _ t)
         by false false eb t = absurd (not-good t)
 
-    at-role : (st : List Open) (n : Counts) (ro : Role) → roleOf bytes ≡ ro →
+    at-role : (st : List Open) (n : Counts) (ro : Role) → nestingRoleOf bytes ≡ ro →
         Then st n (actOfRole ro bytes index (length st) (innerIndex st) (innerEnd st)) → Nest s at st
     at-role st n Neither o h = passes e o (ih st _ h)
     at-role st n Opens o h = at-opener st n o (linksOf bytes) refl h
@@ -92,7 +92,7 @@ module _ (s : List ℕ) (u : Counts) where
 
     at-record : Nests at (more (recAt s (scanOf s at) index from len) (readOf s next))
     unfolding checkFrom checkOn actOf
-    at-record st n h = at-role st n (roleOf bytes) refl h
+    at-record st n h = at-role st n (nestingRoleOf bytes) refl h
 
   at-last : (at q : ℕ) → scanOf s at .next ≡ N.End q → (st : List Open) (n : Counts) → onLast (scanOf s at) (N.End q) st n ≡ Good u → Nest s at st
   unfolding endOf

@@ -16,7 +16,7 @@ use Rattle.iter.specs.declared.Scan.{Scan}
 use Rattle.iter.proofs.Records.{again}
 use Rattle.chain.specs.Chain.{chainOf}
 use Rattle.chain.specs.declared.Chain.{Chain}
-use Rattle.kind.specs.Raw.{roleOf}
+use Rattle.kind.specs.Raw.{nestingRoleOf}
 use Rattle.links.specs.Links.{linksOf}
 use Rattle.links.specs.declared.Links.the-variants.{Read}
 use Rattle.check_nesting.specs.Check.{Open, innerIndex}
@@ -31,7 +31,7 @@ use Rattle.agreement.proofs.Skip.{idxs}
 
 -- an opener that a step yields is found at its own index, with its parent field
 pub opener-found : (s : List ℕ) (p index from len next parent end : ℕ) → scanOf s p .next ≡ N.Record index from len next →
-    roleOf (bytesAt s from len) ≡ Opens → linksOf (bytesAt s from len) ≡ Read parent end → openerOf s index ≡ Parent parent
+    nestingRoleOf (bytesAt s from len) ≡ Opens → linksOf (bytesAt s from len) ≡ Read parent end → openerOf s index ≡ Parent parent
 unfolding openerOf stepOf
 opener-found s p index from len next parent end h r g =
     ap (λ (c : Scan). openerOn s index (c .next)) (again s index from len next p h)

@@ -12,7 +12,7 @@ use Rattle.iter.specs.declared.Scan.{Scan}
 use Rattle.iter.specs.declared.Next.the-variants as N
 use Rattle.iter.proofs.Reading.{step-fits}
 use Rattle.iter.proofs.Records.{again}
-use Rattle.kind.specs.Raw.{roleOf}
+use Rattle.kind.specs.Raw.{nestingRoleOf}
 use Rattle.walk.specs.Finding.{Walk, seen}
 use Rattle.walk.proofs.Walks.{walkAt}
 use Rattle.check_nesting.specs.Check.{Open}
@@ -51,7 +51,7 @@ pub record Skip (s : List ℕ) (i p : ℕ) (gs : List Open) (e : ℕ) (fs : List
   pub after : ℕ
   pub from : p ≤ e
   pub lands : scanOf s e .next ≡ N.Record e start long after
-  pub closer : roleOf (bytesAt s start long) ≡ Closes
+  pub closer : nestingRoleOf (bytesAt s start long) ≡ Closes
   pub rest : Nest s after fs
   pub walked : e < i → Through (walkAt s i p (idxs gs)) (walkAt s i after (idxs fs))
 

@@ -13,7 +13,7 @@ use Rattle.constants.specs.declared.Role.the-variants.{Neither, Opens, Closes}
 use Rattle.iter.specs.Step.{scanOf}
 use Rattle.iter.specs.Reading.{Rec, recAt}
 use Rattle.iter.specs.declared.Next.the-variants as N
-use Rattle.kind.specs.Raw.{roleOf}
+use Rattle.kind.specs.Raw.{nestingRoleOf}
 use Rattle.links.specs.Links.{linksOf}
 use Rattle.links.specs.declared.Links.{Links}
 use Rattle.links.specs.declared.Links.the-variants.{Read}
@@ -75,24 +75,24 @@ module _ (s : List ℕ) (i at : ℕ) (st : List ℕ) (index from len next : ℕ)
   jump-past l = jump-hop (H.Stop 14) (rw (ne-eqb index i (λ q. omega arith), lt-ltb i index l))
 
   module _ (l : index < i) where
-    turn-role : (ro : Role) → roleOf bytes ≡ ro → turnOf i index bytes (length st) ≡ turnOfRole ro (length st)
+    turn-role : (ro : Role) → nestingRoleOf bytes ≡ ro → turnOf i index bytes (length st) ≡ turnOfRole ro (length st)
     unfolding turnOf
     turn-role ro q = rw (ne-eqb index i (λ z. omega arith), le-ltb i index (let f : index ≤ i = omega arith in f), q)
 
-    hop-role : (ro : Role) → roleOf bytes ≡ ro → hopOf i index next bytes (length st) ≡ roleHop ro bytes next i (length st)
+    hop-role : (ro : Role) → nestingRoleOf bytes ≡ ro → hopOf i index next bytes (length st) ≡ roleHop ro bytes next i (length st)
     unfolding hopOf
     hop-role ro q = rw (ne-eqb index i (λ z. omega arith), le-ltb i index (let f : index ≤ i = omega arith in f), q)
 
-    pub walk-plain : roleOf bytes ≡ Neither → walkAt s i at st ≡ seen r (walkAt s i next st)
+    pub walk-plain : nestingRoleOf bytes ≡ Neither → walkAt s i at st ≡ seen r (walkAt s i next st)
     walk-plain q = walk-turn T.Stay (turn-role Neither q)
 
-    pub jump-plain : roleOf bytes ≡ Neither → jumpFrom s i at st ≡ seen r (jumpFrom s i next st)
+    pub jump-plain : nestingRoleOf bytes ≡ Neither → jumpFrom s i at st ≡ seen r (jumpFrom s i next st)
     jump-plain q = jump-hop H.Stay (hop-role Neither q)
 
-    pub walk-open : roleOf bytes ≡ Opens → length st < 64 → walkAt s i at st ≡ seen r (walkAt s i next (index ∷ st))
+    pub walk-open : nestingRoleOf bytes ≡ Opens → length st < 64 → walkAt s i at st ≡ seen r (walkAt s i next (index ∷ st))
     walk-open q h = walk-turn T.Push (turn-role Opens q ∙ ap (λ (b : Bool). cond b (T.Stop 9) T.Push) (lt-leb 64 (length st) h))
 
-    module _ {parent end : ℕ} (q : roleOf bytes ≡ Opens) (g : linksOf bytes ≡ Read parent end) (f : next ≤ end) where
+    module _ {parent end : ℕ} (q : nestingRoleOf bytes ≡ Opens) (g : linksOf bytes ≡ Read parent end) (f : next ≤ end) where
       hop-open : hopOf i index next bytes (length st) ≡ cond (ltb end i) (H.Over end) (cond (leb 64 (length st)) (H.Stop 9) H.Push)
       hop-open =
           hop-role Opens q
@@ -106,7 +106,7 @@ module _ (s : List ℕ) (i at : ℕ) (st : List ℕ) (index from len next : ℕ)
           ∙ ap (λ (b : Bool). cond b (H.Over end) (cond (leb 64 (length st)) (H.Stop 9) H.Push)) (le-ltb end i a)
           ∙ ap (λ (b : Bool). cond b (H.Stop 9) H.Push) (lt-leb 64 (length st) h))
 
-      pub jump-over : {start long after : ℕ} → end < i → scanOf s end .next ≡ N.Record end start long after → roleOf (bytesAt s start long) ≡ Closes →
+      pub jump-over : {start long after : ℕ} → end < i → scanOf s end .next ≡ N.Record end start long after → nestingRoleOf (bytesAt s start long) ≡ Closes →
           jumpFrom s i at st ≡ seen r (seen (yieldedAt s end) (jumpFrom s i after st))
       unfolding landOf
       jump-over {start} {long} {after} a h c =
@@ -116,11 +116,11 @@ module _ (s : List ℕ) (i at : ℕ) (st : List ℕ) (index from len next : ℕ)
           landing : landOf s end ≡ L.After after
           landing =
               ap (landOn s end) h
-              ∙ ap (λ (b : Bool). cond b (landRole (roleOf (bytesAt s start long)) after) missed) (eq-eqb end end refl)
+              ∙ ap (λ (b : Bool). cond b (landRole (nestingRoleOf (bytesAt s start long)) after) missed) (eq-eqb end end refl)
               ∙ ap (λ (x : Role). landRole x after) c
 
 pub walk-close : (s : List ℕ) (i at x : ℕ) (st : List ℕ) (index from len next : ℕ) (e : scanOf s at .next ≡ N.Record index from len next) → index < i →
-    roleOf (bytesAt s from len) ≡ Closes → walkAt s i at (x ∷ st) ≡ seen (recAt s (scanOf s at) index from len) (walkAt s i next st)
+    nestingRoleOf (bytesAt s from len) ≡ Closes → walkAt s i at (x ∷ st) ≡ seen (recAt s (scanOf s at) index from len) (walkAt s i next st)
 walk-close s i at x st index from len next e l q =
     walk-turn s i at (x ∷ st) index from len next e T.Pop
     (turn-role s i at (x ∷ st) index from len next e l Closes q ∙ ap (λ (b : Bool). cond b (T.Stop 10) T.Pop) (ne-eqb (suc (length st)) 0 (omega arith)))

@@ -9,7 +9,7 @@ use Rattle.constants.specs.declared.Role.the-variants.{Opens}
 use Rattle.iter.specs.Reading.{Rec, readOf}
 use Rattle.chain.specs.Chain.{chainOf}
 use Rattle.chain.specs.declared.Chain.{Chain}
-use Rattle.kind.specs.Raw.{roleOf}
+use Rattle.kind.specs.Raw.{nestingRoleOf}
 use Rattle.check_nesting.specs.declared.Counts.{Counts}
 use Rattle.check_nesting.specs.declared.Checked.the-variants.{Good}
 use Rattle.check_nesting.specs.Check.{checkOf}
@@ -33,7 +33,7 @@ Begins s start i = Some (λ r. r .index ≡ i) (readOf s start .recs)
 
 -- A scope opener is a record of a kind that the check takes as an opener.
 abbrev pub OpenerBegins : List ℕ → ℕ → ℕ → Type 0
-OpenerBegins s start i = Some (λ r. (r .index ≡ i) × (roleOf (r .bytes) ≡ Opens)) (readOf s start .recs)
+OpenerBegins s start i = Some (λ r. (r .index ≡ i) × (nestingRoleOf (r .bytes) ≡ Opens)) (readOf s start .recs)
 
 -- The enclosing scopes at a position are the positions on the walk rule's stack when it reads the record there, before that record is
 -- pushed or pops, outermost first.

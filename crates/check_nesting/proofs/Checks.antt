@@ -18,7 +18,7 @@ use Rattle.iter.specs.declared.Next.{Next}
 use Rattle.iter.specs.declared.Next.the-variants.{End, Refused, Record}
 use Rattle.iter.proofs.Reading.{Stepped, step-fits, read-by, Skips, skips}
 use Rattle.iter.proofs.Records.{bytes-length}
-use Rattle.kind.specs.Raw.{roleOf}
+use Rattle.kind.specs.Raw.{nestingRoleOf}
 use Rattle.links.specs.Links.{linksOf}
 use Rattle.links.specs.declared.Links.{Links}
 use Rattle.links.specs.declared.Links.the-variants.{Unread, Read}
@@ -96,7 +96,7 @@ room-role Neither bytes index d inner end = tt
 
 room : (bytes : List ℕ) (index d inner end : ℕ) → Room d (actOf bytes index d inner end)
 unfolding actOf
-room bytes index d inner end = room-role (roleOf bytes) bytes index d inner end
+room bytes index d inner end = room-role (nestingRoleOf bytes) bytes index d inner end
 
 -- what is known of a scan, in numbers
 pub record Scanned (s : List ℕ) (at : ℕ) (c : Scan) : Type 0 where

@@ -14,7 +14,7 @@ use Rattle.iter.specs.declared.Scan.{Scan}
 use Rattle.iter.specs.declared.Next.{Next}
 use Rattle.iter.specs.declared.Next.the-variants.{End, Refused, Record}
 use Rattle.chain.specs.Chain.{topOf}
-use Rattle.kind.specs.Raw.{roleOf}
+use Rattle.kind.specs.Raw.{nestingRoleOf}
 use Rattle.links.specs.Links.{linksOf}
 use Rattle.links.specs.declared.Links.{Links}
 use Rattle.links.specs.declared.Links.the-variants.{Unread, Read}
@@ -59,7 +59,7 @@ actOfRole Neither bytes index depth inner end = Stay
 
 -- what is done with a record, with so many openers open and the innermost's index and end field
 unfoldable pub actOf : List ℕ → ℕ → ℕ → ℕ → ℕ → Act
-actOf bytes index depth inner end = actOfRole (roleOf bytes) bytes index depth inner end
+actOf bytes index depth inner end = actOfRole (nestingRoleOf bytes) bytes index depth inner end
 
 -- records yielded and passed over, the bytes of each group (length fields included), openers, deepest nesting
 unfoldable pub noCounts : Counts

@@ -5,7 +5,7 @@ ghost use mathlib.Core.Path.{_≡_};
 ghost use Prim.Native.Nat.{_+_, _-_, _<_, _≤_, _^_};
 ghost use lib.ListN.{set};
 ghost use Rattle.constants.specs.declared.Role.the-variants.{Opens};
-ghost use Rattle.kind.specs.Raw.{roleOf};
+ghost use Rattle.kind.specs.Raw.{nestingRoleOf};
 ghost use Rattle.links.specs.Links.{linksOf};
 ghost use Rattle.check_nesting.specs.Check.{topAt, actOf, openOf, countedOf, openedOf, noCounts, endOf, refuses, checkOf, addsUp};
 use chain::Chain;
@@ -43,7 +43,7 @@ pub enum Act {
 fn act_at(rec: &[u8], index: usize, opens: &[u32; 64], ends: &[u32; 64], depth: usize) -> Act
     ensures { λ r. ⌜ r ≡ actOf (now (rec .entry)) index depth (topAt (now (opens .entry)) depth) (topAt (now (ends .entry)) depth) ⌝ }
 {
-    match kind::role_of(rec) {
+    match kind::nesting_role(rec) {
         Role::Opens => return open_at(rec, index, depth, innermost(opens, depth)),
         Role::Closes => {
             if depth == 0 {
@@ -59,7 +59,7 @@ fn act_at(rec: &[u8], index: usize, opens: &[u32; 64], ends: &[u32; 64], depth: 
 }
 
 fn open_at(rec: &[u8], index: usize, depth: usize, inner: u32) -> Act
-    requires { ⌜ roleOf (now rec) ≡ Opens ⌝ }
+    requires { ⌜ nestingRoleOf (now rec) ≡ Opens ⌝ }
     ensures { λ r. ⌜ r ≡ openOf (linksOf (now (rec .entry))) index depth inner ⌝ }
 {
     match links::links_of(rec) {

@@ -13,7 +13,7 @@ use Rattle.iter.specs.Step.{scanOf, stepOf}
 use Rattle.iter.specs.declared.Next.{Next}
 use Rattle.iter.specs.declared.Next.the-variants as N
 use Rattle.iter.proofs.Reading.{step-fits}
-use Rattle.kind.specs.Raw.{roleOf}
+use Rattle.kind.specs.Raw.{nestingRoleOf}
 use Rattle.chain.specs.Chain.{chainOf}
 use Rattle.chain.specs.declared.Chain.{Chain}
 use Rattle.chain.proofs.Laws.{pushed, push-stack}
@@ -24,7 +24,7 @@ use Rattle.climb.specs.Climb.{reachedBy, halts, openerRefused, openerIn,
 
 -- where the step yields a record, by the record as the caller lends it
 pub opener-record : (s : List ℕ) (at index from len next : ℕ) → scanOf s at .next ≡ N.Record index from len next →
-    openerOf s at ≡ cond (eqb index at) (openerIn (take (next - from) (drop from s)) (roleOf (take (next - from) (drop from s)))) (openerRefused 14)
+    openerOf s at ≡ cond (eqb index at) (openerIn (take (next - from) (drop from s)) (nestingRoleOf (take (next - from) (drop from s)))) (openerRefused 14)
 unfolding openerOf stepOf
 opener-record s at index from len next e =
     let y = step-fits s at index from len next e in

@@ -11,7 +11,7 @@ use Rattle.constants.specs.declared.Role.the-variants.{Neither, Opens, Closes}
 use Rattle.iter.specs.Step.{stepOf}
 use Rattle.iter.specs.declared.Next.{Next}
 use Rattle.iter.specs.declared.Next.the-variants as N
-use Rattle.kind.specs.Raw.{roleOf}
+use Rattle.kind.specs.Raw.{nestingRoleOf}
 use Rattle.links.specs.Links.{linksOf}
 use Rattle.links.specs.declared.Links.{Links}
 use Rattle.links.specs.declared.Links.the-variants as K
@@ -51,7 +51,7 @@ abbrev pub openerOn : List ℕ → ℕ → Next → Opener
 openerOn s at (N.End p) = openerRefused 14
 openerOn s at (N.Refused e) = O.Refused e
 openerOn s at (N.Record index start len next) =
-    cond (eqb index at) (openerIn (take len (drop start s)) (roleOf (take len (drop start s)))) (openerRefused 14)
+    cond (eqb index at) (openerIn (take len (drop start s)) (nestingRoleOf (take len (drop start s)))) (openerRefused 14)
 
 unfoldable pub openerOf : List ℕ → ℕ → Opener
 openerOf s at = openerOn s at (stepOf s at)

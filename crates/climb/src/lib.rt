@@ -5,7 +5,7 @@ ghost use mathlib.Core.Path.{_≡_};
 ghost use mathlib.Core.List.{[]};
 ghost use Rattle.common.specs.Reader.{refusal};
 ghost use Rattle.constants.specs.declared.Role.the-variants.{Opens};
-ghost use Rattle.kind.specs.Raw.{roleOf};
+ghost use Rattle.kind.specs.Raw.{nestingRoleOf};
 ghost use Rattle.links.specs.Links.{linksOf};
 ghost use Rattle.climb.specs.Climb.{reachedBy, haltedBy, openerRefused, openerBy, openerOf, climbOn, climbOf};
 use chain::Chain;
@@ -72,7 +72,7 @@ fn no_opener(number: u8) -> Opener
 }
 
 fn opener_in(rec: &[u8]) -> Opener
-    requires { ⌜ roleOf (now rec) ≡ Opens ⌝ }
+    requires { ⌜ nestingRoleOf (now rec) ≡ Opens ⌝ }
     ensures { λ r. ⌜ r ≡ openerBy (linksOf (now (rec .entry))) ⌝ }
 {
     match links::links_of(rec) {
@@ -99,7 +99,7 @@ fn opener_at(s: &[u8], at: usize) -> Opener
             if index != at {
                 return no_opener(14);
             }
-            match kind::role_of(&s[from..next]) {
+            match kind::nesting_role(&s[from..next]) {
                 Role::Opens => return opener_in(&s[from..next]),
                 Role::Closes => return no_opener(14),
                 Role::Neither => return no_opener(14),

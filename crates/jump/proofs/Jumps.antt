@@ -21,7 +21,7 @@ use Rattle.iter.proofs.Reading.{Stepped, step-fits}
 use Rattle.chain.specs.Chain.{chainOf}
 use Rattle.chain.proofs.Laws.{pushed}
 use Rattle.chain.specs.declared.Chain.{Chain}
-use Rattle.kind.specs.Raw.{roleOf}
+use Rattle.kind.specs.Raw.{nestingRoleOf}
 use Rattle.links.specs.Links.{linksOf}
 use Rattle.links.specs.declared.Links.{Links}
 use Rattle.links.specs.declared.Links.the-variants as K
@@ -61,10 +61,10 @@ room : (i index next : ℕ) (bytes : List ℕ) (d : ℕ) → Room next d (hopOf 
 unfolding hopOf
 room i index next bytes d = by (eqb index i) (ltb i index)
   where
-    by : (a b : Bool) → Room next d (cond a Found (cond b (Stop 14) (roleHop (roleOf bytes) bytes next i d)))
+    by : (a b : Bool) → Room next d (cond a Found (cond b (Stop 14) (roleHop (nestingRoleOf bytes) bytes next i d)))
     by true b = tt
     by false true = tt
-    by false false = room-role (roleOf bytes) bytes next i d
+    by false false = room-role (nestingRoleOf bytes) bytes next i d
 
 pub push-room : (i index next : ℕ) (bytes : List ℕ) (d : ℕ) → hopOf i index next bytes d ≡ Push → d < 64
 push-room i index next bytes d e = subst (λ (h : Hop). Room next d h) e (room i index next bytes d)
@@ -74,7 +74,7 @@ over-room i index next bytes d end e = subst (λ (h : Hop). Room next d h) e (ro
 
 -- where the step from an end field yields a record, by the record as the caller lends it
 pub land-record : (s : List ℕ) (end index from len next : ℕ) → scanOf s end .next ≡ N.Record index from len next →
-    landOf s end ≡ cond (eqb index end) (landRole (roleOf (take (next - from) (drop from s))) next) missed
+    landOf s end ≡ cond (eqb index end) (landRole (nestingRoleOf (take (next - from) (drop from s))) next) missed
 unfolding landOf
 land-record s end index from len next e =
     let y = step-fits s end index from len next e in
@@ -89,7 +89,7 @@ pub record Lands (s : List ℕ) (end after : ℕ) : Type 0 where
 land-on : (s : List ℕ) (end after : ℕ) (n : Next) → scanOf s end .next ≡ n → landOn s end n ≡ L.After after → Lands s end after
 land-on s end after (N.End p) e q = absurd (let z : _≡_ {A = ℕ} 0 1 = cc in omega arith)
 land-on s end after (N.Refused x) e q = absurd (let z : _≡_ {A = ℕ} 0 1 = cc in omega arith)
-land-on s end after (N.Record index from len next) e q = by (eqb index end) (roleOf (take len (drop from s))) q
+land-on s end after (N.Record index from len next) e q = by (eqb index end) (nestingRoleOf (take len (drop from s))) q
   where
     y : Stepped s end index from len next
     y = step-fits s end index from len next e

@@ -12,7 +12,7 @@ use Rattle.iter.specs.Reading.{Rec, recAt}
 use Rattle.iter.specs.declared.Scan.{Scan}
 use Rattle.iter.specs.declared.Next.{Next}
 use Rattle.iter.specs.declared.Next.the-variants as N
-use Rattle.kind.specs.Raw.{roleOf}
+use Rattle.kind.specs.Raw.{nestingRoleOf}
 use Rattle.links.specs.Links.{linksOf}
 use Rattle.links.specs.declared.Links.{Links}
 use Rattle.links.specs.declared.Links.the-variants as K
@@ -44,7 +44,7 @@ unfoldable pub hopOf : ℕ → ℕ → ℕ → List ℕ → ℕ → Hop
 hopOf i index next bytes depth =
     cond (eqb index i) Found
     (cond (ltb i index) (Stop 14)
-    (roleHop (roleOf bytes) bytes next i depth))
+    (roleHop (nestingRoleOf bytes) bytes next i depth))
 
 -- The next step is made from the end field and must yield a closer at exactly that position (End or another record 13). The step's
 -- own refusal is passed on.
@@ -59,7 +59,7 @@ landRole Neither next = missed
 abbrev pub landOn : List ℕ → ℕ → Next → Land
 landOn s end (N.End p) = missed
 landOn s end (N.Refused e) = L.Refused e
-landOn s end (N.Record index start len next) = cond (eqb index end) (landRole (roleOf (take len (drop start s))) next) missed
+landOn s end (N.Record index start len next) = cond (eqb index end) (landRole (nestingRoleOf (take len (drop start s))) next) missed
 
 unfoldable pub landOf : List ℕ → ℕ → Land
 landOf s end = landOn s end (scanOf s end .next)

@@ -3,7 +3,7 @@
 // As walking, it reads records by steps from a start and changes its chain in place.
 ghost use mathlib.Core.Path.{_≡_};
 ghost use Rattle.constants.specs.declared.Role.the-variants.{Opens};
-ghost use Rattle.kind.specs.Raw.{roleOf};
+ghost use Rattle.kind.specs.Raw.{nestingRoleOf};
 ghost use Rattle.links.specs.Links.{linksOf};
 ghost use Rattle.jump.specs.Jump.{openHop, hopOf, missed, landOf, jumpOf};
 use chain::Chain;
@@ -24,7 +24,7 @@ pub enum Hop {
 
 // The hop at an opener.
 fn hop_open(rec: &[u8], next: usize, i: usize, depth: usize) -> Hop
-    requires { ⌜ roleOf (now rec) ≡ Opens ⌝ }
+    requires { ⌜ nestingRoleOf (now rec) ≡ Opens ⌝ }
     ensures { λ r. ⌜ r ≡ openHop (linksOf (now (rec .entry))) next i depth ⌝ }
 {
     match links::links_of(rec) {
@@ -55,7 +55,7 @@ fn hop_at(rec: &[u8], index: usize, next: usize, i: usize, depth: usize) -> Hop
     if i < index {
         return Hop::Stop(14);
     }
-    match kind::role_of(rec) {
+    match kind::nesting_role(rec) {
         Role::Opens => return hop_open(rec, next, i, depth),
         Role::Closes => return Hop::Stop(13),
         Role::Neither => return Hop::Stay,
@@ -95,7 +95,7 @@ fn land_at(s: &[u8], end: usize) -> Land
             if index != end {
                 return astray();
             }
-            match kind::role_of(&s[from..next]) {
+            match kind::nesting_role(&s[from..next]) {
                 Role::Opens => return astray(),
                 Role::Closes => return Land::After(next),
                 Role::Neither => return astray(),

@@ -11,6 +11,6 @@ use Rattle.constants.specs.declared.Role.{Role}
 unfoldable pub rawKind : List ℕ → ℕ
 rawKind s = cond (ltb (length s) 2) 0 (le 2 s 0)
 
--- A scope opener is a record of a kind that the check takes as an opener.
-unfoldable pub roleOf : List ℕ → Role
-roleOf s = nestingRole (rawKind s)
+-- What the check and the finders take a record for ("a scope opener": a record of a kind that the check takes as an opener).
+unfoldable pub nestingRoleOf : List ℕ → Role
+nestingRoleOf s = nestingRole (rawKind s)

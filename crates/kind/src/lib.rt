@@ -2,7 +2,7 @@
 // any length.
 ghost use mathlib.Core.Path.{_≡_};
 ghost use Rattle.constants.specs.Kind.{startsScope, endsScope};
-ghost use Rattle.kind.specs.Raw.{rawKind, roleOf};
+ghost use Rattle.kind.specs.Raw.{rawKind, nestingRoleOf};
 use constants::Role;
 
 // The kind; 0 below 2 bytes.
@@ -28,8 +28,8 @@ pub fn ends_scope(s: &[u8]) -> bool
 }
 
 // What the check and the finders take the record for.
-pub fn role_of(s: &[u8]) -> Role
-    ensures { λ r. ⌜ r ≡ roleOf (now (s .entry)) ⌝ }
+pub fn nesting_role(s: &[u8]) -> Role
+    ensures { λ r. ⌜ r ≡ nestingRoleOf (now (s .entry)) ⌝ }
 {
     constants::nesting_role(raw_kind(s))
 }

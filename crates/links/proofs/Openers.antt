@@ -16,7 +16,7 @@ use Rattle.constants.specs.declared.Class.{Class}
 use Rattle.constants.specs.declared.Class.the-variants.{Unknown, ScopeEnd, ObjName, RegisterVariable, Constant, UserDefinedType, MultiRegisterVariable, Data, Public, Procedure, ThreadStorage, CompileFlags, UsingNamespace, ProcedureReference, DataReference, AnnotationReference, Trampoline, Export, Local, BuildInfo, InlineSite, InlineSiteEnd, ProcedureEnd, Label, Block, RegisterRelative, Thunk, SeparatedCode}
 use Rattle.constants.specs.declared.Role.the-variants.{Opens}
 use Rattle.constants.proofs.Codes.{agree}
-use Rattle.kind.specs.Raw.{rawKind, roleOf}
+use Rattle.kind.specs.Raw.{rawKind, nestingRoleOf}
 use Rattle.records.specs.Field.{indexOf, orZero32}
 use Rattle.records.specs.declared.OptionPart.{OptionPart}
 use Rattle.records.specs.declared.OptionU32.the-variants as U32
@@ -188,8 +188,8 @@ unfolding nestingRole kindRole classOf kinds
 opens-class k h = rw h at (agree (λ e. not (opens (role e)) || opening (class e)) (λ e. true) k kinds refl refl)
 
 -- decode answers a record that opens a scope with the links that stand at 2 and 6
-decode-linked : (s : List ℕ) → roleOf s ≡ Opens → Linked s (decode s)
-unfolding roleOf rawKind decode byKind _>>=_ uint
+decode-linked : (s : List ℕ) → nestingRoleOf s ≡ Opens → Linked s (decode s)
+unfolding nestingRoleOf rawKind decode byKind _>>=_ uint
 decode-linked s = by (ltb 65535 (length s)) (leb 2 (length s)) refl
   where
     by : (a b : Bool) → leb 2 (length s) ≡ b → nestingRole (cond (ltb (length s) 2) 0 (le 2 s 0)) ≡ Opens → Linked s (cond a (refused (refusal 5 0 0)) (next byKind s (cond b (value (le 2 s 0) 2) (refused runsOut))))
@@ -204,7 +204,7 @@ pub record Found (s : List ℕ) : Type 0 where
   pub room : 10 ≤ length s
   pub links : Fields (le 4 s 2) (le 4 s 6) ≡ linksOf s
 
-pub links-answered : (s : List ℕ) (o : OptionPart) → roleOf s ≡ Opens → nameOf s ≡ N.Answer o → Found s
+pub links-answered : (s : List ℕ) (o : OptionPart) → nestingRoleOf s ≡ Opens → nameOf s ≡ N.Answer o → Found s
 unfolding nameOf linksOf
 links-answered s o h e = by (decode s) refl (decode-linked s h) e
   where

@@ -1,7 +1,7 @@
 // What the check and the finders look at in an opener: its links.
 ghost use mathlib.Core.Path.{_≡_};
 ghost use Rattle.constants.specs.declared.Role.the-variants.{Opens};
-ghost use Rattle.kind.specs.Raw.{roleOf};
+ghost use Rattle.kind.specs.Raw.{nestingRoleOf};
 ghost use Rattle.links.specs.Links.{linksOf};
 use symbol_name::Named;
 
@@ -13,7 +13,7 @@ pub enum Links {
 
 // Both fields stand behind the kind in every layout that opens a scope, and name has decode's refusals: no typed record is built.
 pub fn links_of(rec: &[u8]) -> Links
-    requires { ⌜ roleOf (now rec) ≡ Opens ⌝ }
+    requires { ⌜ nestingRoleOf (now rec) ≡ Opens ⌝ }
     ensures { λ r. ⌜ r ≡ linksOf (now (rec .entry)) ⌝ }
 {
     match symbol_name::name(rec) {

@@ -19,7 +19,7 @@ use Rattle.symbol.specs.Decode.{layout, byKind, decode}
 use Rattle.iter.specs.Reading.{readFrom, readOf}
 use Rattle.iter.specs.Step.{frameAt, scanFrom, scanOf, stepOf}
 use Rattle.iter.specs.declared.Next.the-variants.{End, Refused}
-use Rattle.kind.specs.Raw.{rawKind, roleOf}
+use Rattle.kind.specs.Raw.{rawKind, nestingRoleOf}
 use Rattle.scopes.specs.Scope as S
 use Rattle.links.specs.Links.{linksOf}
 use Rattle.chain.specs.Chain.{chainOf}
@@ -44,39 +44,39 @@ streamA =
 
 -- P1 A passes: 5 and 1 records, 64 and 4 bytes, 2 openers, depth 2.
 p1 : C.checkOf streamA 4 ≡ Good (record { records = 5; bytes = 64; passed = 1; skipped = 4; openers = 2; deepest = 2 })
-unfolding streamA C.checkOf C.checkFrom C.checkOn C.actOf C.noCounts C.countedOf C.openedOf C.countRec C.endOf readOf readFrom scanOf scanFrom frameAt B.le rawKind roleOf K.nestingRole K.roleOf K.find K.kinds linksOf decode byKind layout R._>>=_ R.uint N.run N.cstring N.symbolName S.block K.classOf
+unfolding streamA C.checkOf C.checkFrom C.checkOn C.actOf C.noCounts C.countedOf C.openedOf C.countRec C.endOf readOf readFrom scanOf scanFrom frameAt B.le rawKind nestingRoleOf K.nestingRole K.roleOf K.find K.kinds linksOf decode byKind layout R._>>=_ R.uint N.run N.cstring N.symbolName S.block K.classOf
 p1 = refl
 
 -- P2 i = 52: chain 4, 28; 3 read both ways. (`chainOf` takes a stack, the innermost first.)
 p2-walk : walkOf streamA 4 52 ≡ foundBy (chainOf (28 ∷ 4 ∷ [])) 3
-unfolding streamA walkOf walkFrom walkOn turnOf refusedBy readOf readFrom scanOf scanFrom frameAt B.le rawKind roleOf K.nestingRole K.roleOf K.find K.kinds
+unfolding streamA walkOf walkFrom walkOn turnOf refusedBy readOf readFrom scanOf scanFrom frameAt B.le rawKind nestingRoleOf K.nestingRole K.roleOf K.find K.kinds
 p2-walk = refl
 
 p2-jump : jumpOf streamA 4 52 ≡ foundBy (chainOf (28 ∷ 4 ∷ [])) 3
-unfolding streamA jumpOf jumpFrom jumpBy jumpBody hopOf landOf yieldedAt refusedBy scanOf scanFrom frameAt B.le rawKind roleOf K.nestingRole K.roleOf K.find K.kinds linksOf decode byKind layout R._>>=_ R.uint N.run N.cstring N.symbolName S.block K.classOf
+unfolding streamA jumpOf jumpFrom jumpBy jumpBody hopOf landOf yieldedAt refusedBy scanOf scanFrom frameAt B.le rawKind nestingRoleOf K.nestingRole K.roleOf K.find K.kinds linksOf decode byKind layout R._>>=_ R.uint N.run N.cstring N.symbolName S.block K.classOf
 p2-jump = refl
 
 -- P3 i = 68: chain 4; walk 5 read, jump 4.
 p3-walk : walkOf streamA 4 68 ≡ foundBy (chainOf (4 ∷ [])) 5
-unfolding streamA walkOf walkFrom walkOn turnOf refusedBy readOf readFrom scanOf scanFrom frameAt B.le rawKind roleOf K.nestingRole K.roleOf K.find K.kinds
+unfolding streamA walkOf walkFrom walkOn turnOf refusedBy readOf readFrom scanOf scanFrom frameAt B.le rawKind nestingRoleOf K.nestingRole K.roleOf K.find K.kinds
 p3-walk = refl
 
 p3-jump : jumpOf streamA 4 68 ≡ foundBy (chainOf (4 ∷ [])) 4
-unfolding streamA jumpOf jumpFrom jumpBy jumpBody hopOf landOf yieldedAt refusedBy scanOf scanFrom frameAt B.le rawKind roleOf K.nestingRole K.roleOf K.find K.kinds linksOf decode byKind layout R._>>=_ R.uint N.run N.cstring N.symbolName S.block K.classOf
+unfolding streamA jumpOf jumpFrom jumpBy jumpBody hopOf landOf yieldedAt refusedBy scanOf scanFrom frameAt B.le rawKind nestingRoleOf K.nestingRole K.roleOf K.find K.kinds linksOf decode byKind layout R._>>=_ R.uint N.run N.cstring N.symbolName S.block K.classOf
 p3-jump = refl
 
 -- P4 i = 64: 14 both ways.
 p4-walk : walkOf streamA 4 64 ≡ refusedBy (refusal 14 0 0)
-unfolding streamA walkOf walkFrom walkOn turnOf refusedBy readOf readFrom scanOf scanFrom frameAt B.le rawKind roleOf K.nestingRole K.roleOf K.find K.kinds
+unfolding streamA walkOf walkFrom walkOn turnOf refusedBy readOf readFrom scanOf scanFrom frameAt B.le rawKind nestingRoleOf K.nestingRole K.roleOf K.find K.kinds
 p4-walk = refl
 
 p4-jump : jumpOf streamA 4 64 ≡ refusedBy (refusal 14 0 0)
-unfolding streamA jumpOf jumpFrom jumpBy jumpBody hopOf landOf yieldedAt refusedBy scanOf scanFrom frameAt B.le rawKind roleOf K.nestingRole K.roleOf K.find K.kinds linksOf decode byKind layout R._>>=_ R.uint N.run N.cstring N.symbolName S.block K.classOf
+unfolding streamA jumpOf jumpFrom jumpBy jumpBody hopOf landOf yieldedAt refusedBy scanOf scanFrom frameAt B.le rawKind nestingRoleOf K.nestingRole K.roleOf K.find K.kinds linksOf decode byKind layout R._>>=_ R.uint N.run N.cstring N.symbolName S.block K.classOf
 p4-jump = refl
 
 -- P5 climb from 28: 4; one link.
 p5 : climbOf streamA 28 ≡ reachedBy (chainOf (4 ∷ []))
-unfolding streamA climbOf climbOn openerOf haltedBy stepOf scanOf scanFrom frameAt B.le rawKind roleOf K.nestingRole K.roleOf K.find K.kinds linksOf decode byKind layout R._>>=_ R.uint N.run N.cstring N.symbolName S.block K.classOf
+unfolding streamA climbOf climbOn openerOf haltedBy stepOf scanOf scanFrom frameAt B.le rawKind nestingRoleOf K.nestingRole K.roleOf K.find K.kinds linksOf decode byKind layout R._>>=_ R.uint N.run N.cstring N.symbolName S.block K.classOf
 p5 = refl
 
 -- Condition 3 speaks of A: it passes (P1), a record begins at 52 (P2) and at 68 (P3), none at 64 (P4), and an opener at 28 (P5).
@@ -94,7 +94,7 @@ c3-64 (inr (inr (inr (inr (inl e))))) = absurd (omega arith)
 c3-64 (inr (inr (inr (inr (inr e))))) = absurd e
 
 c3-28 : OpenerBegins streamA 4 28
-unfolding streamA readOf readFrom scanOf scanFrom frameAt B.le rawKind roleOf K.nestingRole K.roleOf K.find K.kinds
+unfolding streamA readOf readFrom scanOf scanFrom frameAt B.le rawKind nestingRoleOf K.nestingRole K.roleOf K.find K.kinds
 c3-28 = inr (inl (refl, refl))
 
 -- P6 empty stream: End at 0.

@@ -21,7 +21,7 @@ use Rattle.iter.proofs.Reading.{Stepped, step-fits, read-by}
 use Rattle.chain.specs.Chain.{chainOf}
 use Rattle.chain.specs.declared.Chain.{Chain}
 use Rattle.chain.proofs.Laws.{pushed, popped, pop-tail, length-tail}
-use Rattle.kind.specs.Raw.{roleOf}
+use Rattle.kind.specs.Raw.{nestingRoleOf}
 use Rattle.walk.specs.declared.Turn.{Turn}
 use Rattle.walk.specs.declared.Turn.the-variants.{Stay, Push, Pop, Found, Stop}
 use Rattle.walk.specs.Finding.{Walk, seen, refuses, stops, foundBy, refusedBy, answerOf}
@@ -53,10 +53,10 @@ room : (i index : ℕ) (bytes : List ℕ) (d : ℕ) → Room d (turnOf i index b
 unfolding turnOf
 room i index bytes d = by (eqb index i) (ltb i index)
   where
-    by : (a b : Bool) → Room d (cond a Found (cond b (Stop 14) (turnOfRole (roleOf bytes) d)))
+    by : (a b : Bool) → Room d (cond a Found (cond b (Stop 14) (turnOfRole (nestingRoleOf bytes) d)))
     by true b = tt
     by false true = tt
-    by false false = room-role (roleOf bytes) d
+    by false false = room-role (nestingRoleOf bytes) d
 
 pub push-room : (i index : ℕ) (bytes : List ℕ) (d : ℕ) → turnOf i index bytes d ≡ Push → d < 64
 push-room i index bytes d e = subst (λ (t : Turn). Room d t) e (room i index bytes d)

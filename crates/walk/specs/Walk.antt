@@ -9,7 +9,7 @@ use Rattle.constants.specs.declared.Role.the-variants.{Neither, Opens, Closes}
 use Rattle.iter.specs.Reading.{Rec, Reading, readOf}
 use Rattle.iter.specs.declared.Next.{Next}
 use Rattle.iter.specs.declared.Next.the-variants as N
-use Rattle.kind.specs.Raw.{roleOf}
+use Rattle.kind.specs.Raw.{nestingRoleOf}
 use Rattle.walk.specs.Finding.{Walk, seen, refuses, stops, findingOf}
 use Rattle.walk.specs.declared.Outcome.the-variants.{Answer}
 use Rattle.walk.specs.declared.Finding.{Finding}
@@ -27,7 +27,7 @@ unfoldable pub turnOf : ℕ → ℕ → List ℕ → ℕ → Turn
 turnOf i index bytes depth =
     cond (eqb index i) Found
     (cond (ltb i index) (Stop 14)
-    (turnOfRole (roleOf bytes) depth))
+    (turnOfRole (nestingRoleOf bytes) depth))
 
 -- The walk from a record, where `on` is the walk over the records after it, with a stack.
 abbrev pub onTurn : Rec → List ℕ → Turn → (List ℕ → Walk) → Walk

@@ -74,7 +74,7 @@ fn turn_at(rec: &[u8], index: usize, i: usize, depth: usize) -> Turn
     if i < index {
         return Turn::Stop(14);
     }
-    match kind::role_of(rec) {
+    match kind::nesting_role(rec) {
         Role::Opens => {
             if 64 <= depth {
                 return Turn::Stop(9);

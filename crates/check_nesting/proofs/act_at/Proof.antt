@@ -7,8 +7,8 @@ use Rattle.check_nesting.specs.Check.{actOf}
 use Rattle.check_nesting.proofs.act_at.Statement.{statement}
 use Rattle.check_nesting.proofs.act_at.Tie as tie
 
-role-of-requires : tie.Need-role-of-requires
-role-of-requires c κs = search needs
+nesting-role-requires : tie.Need-nesting-role-requires
+nesting-role-requires c κs = search needs
 
 enum-told : tie.Need-enum-told
 enum-told c = search needs
@@ -17,18 +17,18 @@ innermost-requires : tie.Need-innermost-requires
 innermost-requires c κs = search needs
 
 open-at-requires : tie.Need-open-at-requires
-open-at-requires c κs = sym (c .before .before .before .role-of .ensures) ∙ c .before .enum-told .given .1
+open-at-requires c κs = sym (c .before .before .before .nesting-role .ensures) ∙ c .before .enum-told .given .1
 
 returns : tie.Need-returns
 unfolding actOf
-returns c = rw (sym (c .before .before .before .before .role-of .ensures) ∙ c .before .before .enum-told .given .1, sym (c .before .innermost .ensures)) (c .open-at .ensures)
+returns c = rw (sym (c .before .before .before .before .nesting-role .ensures) ∙ c .before .before .enum-told .given .1, sym (c .before .innermost .ensures)) (c .open-at .ensures)
 
 enum-told-2 : tie.Need-enum-told-2
 enum-told-2 c = search needs
 
 returns-2 : tie.Need-returns-2
 unfolding actOf
-returns-2 c = rw (sym (c .before .before .before .role-of .ensures) ∙ c .before .enum-told2 .given .1, eq-eqb _ _ (c .if1 .taken))
+returns-2 c = rw (sym (c .before .before .before .nesting-role .ensures) ∙ c .before .enum-told2 .given .1, eq-eqb _ _ (c .if1 .taken))
 
 innermost-requires-2 : tie.Need-innermost-requires-2
 innermost-requires-2 c κs = search needs
@@ -38,24 +38,24 @@ cast-if2 c = search needs
 
 returns-3 : tie.Need-returns-3
 unfolding actOf
-returns-3 c = rw (sym (c .before .before .before .before .before .role-of .ensures) ∙ c .before .before .before .enum-told2 .given .1, ne-eqb _ _ (c .before .before .if1 .left), sym (c .before .innermost2 .ensures), ne-eqb _ _ (c .if2 .taken))
+returns-3 c = rw (sym (c .before .before .before .before .before .nesting-role .ensures) ∙ c .before .before .before .enum-told2 .given .1, ne-eqb _ _ (c .before .before .if1 .left), sym (c .before .innermost2 .ensures), ne-eqb _ _ (c .if2 .taken))
 
 returns-4 : tie.Need-returns-4
 unfolding actOf
-returns-4 c = rw (sym (c .before .before .before .before .before .role-of .ensures) ∙ c .before .before .before .enum-told2 .given .1, ne-eqb _ _ (c .before .before .if1 .left), sym (c .before .innermost2 .ensures), eq-eqb _ _ (c .if2 .left))
+returns-4 c = rw (sym (c .before .before .before .before .before .nesting-role .ensures) ∙ c .before .before .before .enum-told2 .given .1, ne-eqb _ _ (c .before .before .if1 .left), sym (c .before .innermost2 .ensures), eq-eqb _ _ (c .if2 .left))
 
 enum-told-3 : tie.Need-enum-told-3
 enum-told-3 c = search needs
 
 returns-5 : tie.Need-returns-5
 unfolding actOf
-returns-5 c = rw (sym (c .before .before .role-of .ensures) ∙ c .enum-told3 .given .1)
+returns-5 c = rw (sym (c .before .before .nesting-role .ensures) ∙ c .enum-told3 .given .1)
 
 pub act-at-spec : {M : Type 1} → statement M
 act-at-spec =
     tie.close
     (tie.spec
-    role-of-requires
+    nesting-role-requires
     enum-told
     innermost-requires
     open-at-requires
