@@ -15,9 +15,9 @@ use Rattle.iter.proofs.Reading.{step-fits, read-by}
 use Rattle.iter.proofs.Records.{Rising, rising}
 use Rattle.chain.specs.Chain.{chainOf}
 use Rattle.kind.specs.Raw.{nestingRoleOf}
-use Rattle.walk.specs.Finding.{Walk, seen, foundBy, refusedBy, answerOf, findingOf}
-use Rattle.walk.specs.declared.Outcome.{Outcome}
-use Rattle.walk.specs.declared.Outcome.the-variants.{Answer, Refused}
+use Rattle.finding.specs.Finding.{Walk, seen, foundBy, refusedBy, answerOf, findingOf}
+use Rattle.finding.specs.declared.Outcome.{Outcome}
+use Rattle.finding.specs.declared.Outcome.the-variants.{Answer, Refused}
 use Rattle.walk.specs.Walk.{walkOf}
 use Rattle.walk.proofs.Walks.{walkAt}
 use Rattle.jump.specs.Jump.{jumpFrom, jumpOf}

@@ -13,7 +13,7 @@ use Rattle.iter.specs.declared.Next.the-variants as N
 use Rattle.iter.proofs.Reading.{step-fits}
 use Rattle.iter.proofs.Records.{again}
 use Rattle.kind.specs.Raw.{nestingRoleOf}
-use Rattle.walk.specs.Finding.{Walk, seen}
+use Rattle.finding.specs.Finding.{Walk, seen}
 use Rattle.walk.proofs.Walks.{walkAt}
 use Rattle.check_nesting.specs.Check.{Open}
 use Rattle.agreement.proofs.Nest.{bytesAt, openAt, Nest, done, passes, opens, closes}

@@ -17,8 +17,8 @@ use Rattle.kind.specs.Raw.{nestingRoleOf}
 use Rattle.links.specs.Links.{linksOf}
 use Rattle.links.specs.declared.Links.{Links}
 use Rattle.links.specs.declared.Links.the-variants.{Read}
-use Rattle.walk.specs.Finding.{Walk, seen, stops}
-use Rattle.walk.specs.declared.Outcome.the-variants.{Answer}
+use Rattle.finding.specs.Finding.{Walk, seen, stops}
+use Rattle.finding.specs.declared.Outcome.the-variants.{Answer}
 use Rattle.walk.specs.declared.Turn.{Turn}
 use Rattle.walk.specs.declared.Turn.the-variants as T
 use Rattle.walk.specs.Walk.{turnOfRole, turnOf, onTurn}

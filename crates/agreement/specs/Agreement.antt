@@ -13,9 +13,9 @@ use Rattle.kind.specs.Raw.{nestingRoleOf}
 use Rattle.check_nesting.specs.declared.Counts.{Counts}
 use Rattle.check_nesting.specs.declared.Checked.the-variants.{Good}
 use Rattle.check_nesting.specs.Check.{checkOf}
-use Rattle.walk.specs.declared.Outcome.the-variants.{Answer}
-use Rattle.walk.specs.declared.Finding.{Finding}
-use Rattle.walk.specs.Finding.{refusedBy}
+use Rattle.finding.specs.declared.Outcome.the-variants.{Answer}
+use Rattle.finding.specs.declared.Finding.{Finding}
+use Rattle.finding.specs.Finding.{refusedBy}
 use Rattle.walk.specs.Walk.{walkFrom, walkOf}
 use Rattle.jump.specs.Jump.{jumpOf}
 use Rattle.climb.specs.declared.Ascent.{Ascent}

@@ -6,7 +6,7 @@ ghost use mathlib.Core.Path.{_≡_};
 ghost use Rattle.agreement.specs.Agreement.{answersOf, Condition3};
 use check_nesting::Checked;
 use climb::Ascent;
-use walk::Finding;
+use finding::Finding;
 
 // What the four calls return.
 pub struct Answers {

@@ -17,7 +17,7 @@ use Rattle.links.specs.declared.Links.{Links}
 use Rattle.links.specs.declared.Links.the-variants as K
 use Rattle.chain.specs.Chain.{chainOf}
 use Rattle.chain.specs.declared.Chain.{Chain}
-use Rattle.walk.specs.declared.Outcome.the-variants.{Answer, Refused}
+use Rattle.finding.specs.declared.Outcome.the-variants.{Answer, Refused}
 use Rattle.climb.specs.declared.Ascent.{Ascent}
 use Rattle.climb.specs.declared.Opener.{Opener}
 use Rattle.climb.specs.declared.Opener.the-variants as O

@@ -11,9 +11,9 @@ ghost use Rattle.climb.specs.Climb.{reachedBy, haltedBy, openerRefused, 
 use chain::Chain;
 use common::Refusal;
 use constants::Role;
+use finding::Outcome;
 use iter::Next;
 use links::Links;
-use walk::Outcome;
 
 // What the climb finder returns: the chain, and the number of links climbed. At a refusal the chain is empty and there are no links.
 pub struct Ascent {

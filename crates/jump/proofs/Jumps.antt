@@ -25,8 +25,8 @@ use Rattle.kind.specs.Raw.{nestingRoleOf}
 use Rattle.links.specs.Links.{linksOf}
 use Rattle.links.specs.declared.Links.{Links}
 use Rattle.links.specs.declared.Links.the-variants as K
-use Rattle.walk.specs.Finding.{Walk, seen, foundBy, refusedBy, answerOf}
-use Rattle.walk.proofs.Goings.{Going, depth-is, ends, onward, pushed-chain}
+use Rattle.finding.specs.Finding.{Walk, seen, foundBy, refusedBy, answerOf}
+use Rattle.finding.proofs.Goings.{Going, depth-is, ends, onward, pushed-chain}
 use Rattle.jump.specs.declared.Hop.{Hop}
 use Rattle.jump.specs.declared.Hop.the-variants.{Stay, Push, Over, Found, Stop}
 use Rattle.jump.specs.declared.Land.{Land}

@@ -16,9 +16,9 @@ use Rattle.kind.specs.Raw.{nestingRoleOf}
 use Rattle.links.specs.Links.{linksOf}
 use Rattle.links.specs.declared.Links.{Links}
 use Rattle.links.specs.declared.Links.the-variants as K
-use Rattle.walk.specs.Finding.{Walk, seen, refuses, stops, findingOf}
-use Rattle.walk.specs.declared.Outcome.the-variants.{Answer}
-use Rattle.walk.specs.declared.Finding.{Finding}
+use Rattle.finding.specs.Finding.{Walk, seen, refuses, stops, findingOf}
+use Rattle.finding.specs.declared.Outcome.the-variants.{Answer}
+use Rattle.finding.specs.declared.Finding.{Finding}
 use Rattle.jump.specs.declared.Hop.{Hop}
 use Rattle.jump.specs.declared.Hop.the-variants.{Stay, Push, Over, Found, Stop}
 use Rattle.jump.specs.declared.Land.{Land}

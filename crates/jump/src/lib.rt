@@ -9,9 +9,9 @@ ghost use Rattle.jump.specs.Jump.{openHop, hopOf, missed, landOf, jumpOf
 use chain::Chain;
 use common::Refusal;
 use constants::Role;
+use finding::Finding;
 use iter::Next;
 use links::Links;
-use walk::Finding;
 
 // What the finder does at a record that it reads: `Over` jumps to the closer that an end field names.
 pub enum Hop {
@@ -113,8 +113,8 @@ pub fn jump(s: &[u8], start: usize, i: usize) -> Finding
     let mut read: usize = 0;
     loop {
         match iter::step(s, at) {
-            Next::End(_) => return walk::stopped(14),
-            Next::Refused(e) => return walk::refused(e),
+            Next::End(_) => return finding::stopped(14),
+            Next::Refused(e) => return finding::refused(e),
             Next::Record {
                 index,
                 start: from,
@@ -135,10 +135,10 @@ pub fn jump(s: &[u8], start: usize, i: usize) -> Finding
                             at = after;
                             read = read + 1;
                         }
-                        Land::Refused(e) => return walk::refused(e),
+                        Land::Refused(e) => return finding::refused(e),
                     },
-                    Hop::Found => return walk::found(chain, read),
-                    Hop::Stop(number) => return walk::stopped(number),
+                    Hop::Found => return finding::found(chain, read),
+                    Hop::Stop(number) => return finding::stopped(number),
                 }
             }
         }

@@ -15,9 +15,9 @@ use Rattle.iter.specs.declared.Next.the-variants as N
 use Rattle.check_nesting.specs.declared.Checked.{Checked}
 use Rattle.check_nesting.specs.declared.Checked.the-variants as C
 use Rattle.chain.specs.declared.Chain.{Chain}
-use Rattle.walk.specs.declared.Outcome.{Outcome}
-use Rattle.walk.specs.declared.Outcome.the-variants as O
-use Rattle.walk.specs.declared.Finding.{Finding}
+use Rattle.finding.specs.declared.Outcome.{Outcome}
+use Rattle.finding.specs.declared.Outcome.the-variants as O
+use Rattle.finding.specs.declared.Finding.{Finding}
 use Rattle.climb.specs.declared.Ascent.{Ascent}
 use Rattle.mitrelilac.specs.Reply.{Reply, answers, refuses}
 

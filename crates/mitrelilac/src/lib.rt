@@ -21,12 +21,12 @@ ghost use Rattle.mitrelilac.specs.Replies.{stepReply, kindReply, decodeR
 use chain::Chain;
 use check_nesting::Checked;
 use common::Refusal;
+use finding::Outcome;
 use iter::Next;
 use records::Decoded;
 use records::OptionPart;
 use registers::ParsedEntry;
 use symbol_name::Named;
-use walk::Outcome;
 
 fn refuse(out: &mut [u64], e: Refusal) -> u32
     requires { ⌜ 2 ≤ length (now out) ⌝ }

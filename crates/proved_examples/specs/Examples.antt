@@ -25,7 +25,7 @@ use Rattle.links.specs.Links.{linksOf}
 use Rattle.chain.specs.Chain.{chainOf}
 use Rattle.check_nesting.specs.Check as C
 use Rattle.check_nesting.specs.declared.Checked.the-variants.{Good}
-use Rattle.walk.specs.Finding.{foundBy, refusedBy}
+use Rattle.finding.specs.Finding.{foundBy, refusedBy}
 use Rattle.walk.specs.Walk.{turnOf, walkOn, walkFrom, walkOf}
 use Rattle.climb.specs.Climb.{reachedBy, haltedBy, openerOf, climbOn, climbOf}
 use Rattle.jump.specs.Jump.{hopOf, landOf, yieldedAt, jumpBody, jumpBy, jumpFrom, jumpOf}

@@ -24,9 +24,9 @@ use Rattle.chain.proofs.Laws.{pushed, popped, pop-tail, length-tail}
 use Rattle.kind.specs.Raw.{nestingRoleOf}
 use Rattle.walk.specs.declared.Turn.{Turn}
 use Rattle.walk.specs.declared.Turn.the-variants.{Stay, Push, Pop, Found, Stop}
-use Rattle.walk.specs.Finding.{Walk, seen, refuses, stops, foundBy, refusedBy, answerOf}
+use Rattle.finding.specs.Finding.{Walk, seen, refuses, stops, foundBy, refusedBy, answerOf}
 use Rattle.walk.specs.Walk.{turnOfRole, turnOf, onTurn, walkLast, walkOn, walkFrom, walkOf}
-use Rattle.walk.proofs.Goings.{Going, depth-is, ends, onward, pushed-chain}
+use Rattle.finding.proofs.Goings.{Going, depth-is, ends, onward, pushed-chain}
 
 -- an opener is pushed only below 64, and a closer pops only where one is open
 abbrev Room : ℕ → Turn → Type 0

@@ -1,2 +1,1 @@
-pub mod Finding
 pub mod Walk

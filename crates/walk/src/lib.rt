@@ -1,59 +1,12 @@
 // The walk finder: the scopes that enclose a record, by steps from a start.
 //
-// What the walk finder and the jump finder return stands here too. The chain lists the outermost scope first; it is changed in
-// place, so that no step of the walk copies it.
+// The chain is changed in place, so that no step of the walk copies it.
 ghost use mathlib.Core.Path.{_≡_};
-ghost use Rattle.common.specs.Reader.{refusal};
-ghost use Rattle.walk.specs.Finding.{foundBy, refusedBy};
 ghost use Rattle.walk.specs.Walk.{turnOf, walkOf};
 use chain::Chain;
-use common::Refusal;
 use constants::Role;
+use finding::Finding;
 use iter::Next;
-
-// Whether a finder answers.
-pub enum Outcome {
-    Answer,
-    Refused(Refusal),
-}
-
-// What a finder returns: the chain and the number of records read. At a refusal the chain is empty and the count 0.
-pub struct Finding {
-    pub out: Outcome,
-    pub chain: Chain,
-    pub read: usize,
-}
-
-pub fn found(chain: Chain, read: usize) -> Finding
-    ensures { λ r. ⌜ r ≡ foundBy chain read ⌝ }
-{
-    let out = Outcome::Answer;
-    Finding { out, chain, read }
-}
-
-pub fn refused(e: Refusal) -> Finding
-    ensures { λ r. ⌜ r ≡ refusedBy e ⌝ }
-{
-    let chain = Chain::new();
-    let out = Outcome::Refused(e);
-    Finding {
-        out,
-        chain,
-        read: 0,
-    }
-}
-
-// A refusal that is the finder's own, and not a step's, carries no position.
-pub fn stopped(number: u8) -> Finding
-    ensures { λ r. ⌜ r ≡ refusedBy (refusal number 0 0) ⌝ }
-{
-    let e = Refusal {
-        number,
-        position: 0,
-        detail: 0,
-    };
-    refused(e)
-}
 
 // What the walk does at a record that it reads.
 pub enum Turn {
@@ -100,8 +53,8 @@ pub fn walk(s: &[u8], start: usize, i: usize) -> Finding
     let mut read: usize = 0;
     loop {
         match iter::step(s, at) {
-            Next::End(_) => return stopped(14),
-            Next::Refused(e) => return refused(e),
+            Next::End(_) => return finding::stopped(14),
+            Next::Refused(e) => return finding::refused(e),
             Next::Record {
                 index,
                 start: from,
@@ -121,8 +74,8 @@ pub fn walk(s: &[u8], start: usize, i: usize) -> Finding
                         chain.at[depth - 1] = 0;
                         chain.depth = depth - 1;
                     }
-                    Turn::Found => return found(chain, read),
-                    Turn::Stop(number) => return stopped(number),
+                    Turn::Found => return finding::found(chain, read),
+                    Turn::Stop(number) => return finding::stopped(number),
                 }
             }
         }

@@ -9,7 +9,7 @@ use Rattle.iter.specs.Step.{scanOf, stepOf}
 use Rattle.iter.specs.declared.Next.the-variants.{Record}
 use Rattle.iter.proofs.Reading.{step-fits}
 use Rattle.chain.proofs.Laws.{pushed-is}
-use Rattle.walk.proofs.Goings.{going-first}
+use Rattle.finding.proofs.Goings.{going-first}
 use Rattle.jump.proofs.Jumps.{Jumping, push-room, at-end, at-refused, going-stay, going-push, over, going-over, at-miss, at-found, at-stop}
 use Rattle.jump.proofs.jump.Statement.{statement}
 use Rattle.jump.proofs.jump.Tie as tie

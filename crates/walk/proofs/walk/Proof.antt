@@ -9,7 +9,7 @@ use Rattle.iter.specs.Step.{scanOf, stepOf}
 use Rattle.iter.specs.declared.Next.the-variants.{Record}
 use Rattle.iter.proofs.Reading.{step-fits}
 use Rattle.chain.proofs.Laws.{pushed-is, popped-is}
-use Rattle.walk.proofs.Goings.{going-first, depth-most}
+use Rattle.finding.proofs.Goings.{going-first, depth-most}
 use Rattle.walk.proofs.Walks.{Walking, push-room, pop-room, at-end, at-refused, going-stay, going-push, going-pop, at-found, at-stop}
 use Rattle.walk.proofs.walk.Statement.{statement}
 use Rattle.walk.proofs.walk.Tie as tie

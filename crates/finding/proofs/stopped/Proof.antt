@@ -1,8 +1,8 @@
--- `walk::stopped` meets its contract.
+-- `finding::stopped` meets its contract.
 -- Assumes nothing.
 use borrow.Author.Needs.{needs}
-use Rattle.walk.proofs.stopped.Statement.{statement}
-use Rattle.walk.proofs.stopped.Tie as tie
+use Rattle.finding.proofs.stopped.Statement.{statement}
+use Rattle.finding.proofs.stopped.Tie as tie
 
 refused-requires : tie.Need-refused-requires
 refused-requires c κs = search needs

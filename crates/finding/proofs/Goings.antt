@@ -8,7 +8,7 @@ use lib.ListN.{length}
 use Rattle.chain.specs.Chain.{chainOf}
 use Rattle.chain.specs.declared.Chain.{Chain}
 use Rattle.chain.proofs.Laws.{pushed, push-stack}
-use Rattle.walk.specs.Finding.{Walk, answerOf, findingOf}
+use Rattle.finding.specs.Finding.{Walk, answerOf, findingOf}
 
 -- F is the walk from a position with a stack, and L the stream's length. The chain is that of a stack, and the walk from the start
 -- ends as the walk from here with that stack does, with the records read so far before its own.

@@ -7,9 +7,9 @@ use Rattle.common.specs.declared.Refusal.{Refusal}
 use Rattle.iter.specs.Reading.{Rec}
 use Rattle.chain.specs.Chain.{chainOf}
 use Rattle.chain.specs.declared.Chain.{Chain}
-use Rattle.walk.specs.declared.Outcome.{Outcome}
-use Rattle.walk.specs.declared.Outcome.the-variants.{Answer, Refused}
-use Rattle.walk.specs.declared.Finding.{Finding}
+use Rattle.finding.specs.declared.Outcome.{Outcome}
+use Rattle.finding.specs.declared.Outcome.the-variants.{Answer, Refused}
+use Rattle.finding.specs.declared.Finding.{Finding}
 
 -- How a walk ends: its outcome, the stack, and the records that it visited. A stack lists the open openers, the innermost first.
 pub record Walk : Type 0 where

@@ -1,8 +1,8 @@
--- `walk::found` meets its contract.
+-- `finding::found` meets its contract.
 -- Assumes nothing.
 use mathlib.Core.Path.{refl}
-use Rattle.walk.proofs.found.Statement.{statement}
-use Rattle.walk.proofs.found.Tie as tie
+use Rattle.finding.proofs.found.Statement.{statement}
+use Rattle.finding.proofs.found.Tie as tie
 
 returns : tie.Need-returns
 returns c = refl

@@ -1,9 +1,9 @@
--- `walk::refused` meets its contract.
+-- `finding::refused` meets its contract.
 -- Assumes nothing.
 use borrow.Author.Needs.{needs}
-use Rattle.walk.specs.Finding.{refusedBy}
-use Rattle.walk.proofs.refused.Statement.{statement}
-use Rattle.walk.proofs.refused.Tie as tie
+use Rattle.finding.specs.Finding.{refusedBy}
+use Rattle.finding.proofs.refused.Statement.{statement}
+use Rattle.finding.proofs.refused.Tie as tie
 
 new-requires : tie.Need-new-requires
 new-requires c κs = search needs
