@@ -10,7 +10,7 @@ use native.Mathlib.Decide.{decLt}
 use borrow.Author.Tests.{ltb-true, ltb-false, leb-false}
 use lib.Dec.{ltb, leb, eqb, lit<}
 use lib.ListN.{getD, replicate, List·getD-map}
-use Rattle.constants.specs.Kind.{Entry, kind, kinds, number, class, role, find, classOf, roleOf, opens, closes, startsScope, endsScope}
+use Rattle.constants.specs.Kind.{Entry, kind, kinds, number, class, role, find, classOf, classNumber, roleOf, opens, closes, startsScope, endsScope}
 use Rattle.constants.specs.Table.{code, codeOf, packed, rowOf}
 use Rattle.constants.specs.Processor.{among}
 use Rattle.constants.specs.declared.Class.{Class}
@@ -147,6 +147,10 @@ class-there k = agree (λ e. getD classes (code e / 4) Unknown) class k kinds re
 -- the arm for a class, and the last arm, which no kind comes to
 pub class-at : (i k : ℕ) → codeOf k / 4 ≡ i → getD classes i Unknown ≡ classOf k
 class-at i k h = ap (λ (x : ℕ). getD classes x Unknown) (sym h) ∙ class-there k
+
+pub number-there : (k : ℕ) → codeOf k / 4 ≡ classNumber (classOf k)
+unfolding codeOf classOf kinds
+number-there k = agree (λ e. code e / 4) (λ e. classNumber (class e)) k kinds refl refl
 
 unnumbered : ℕ → ℕ
 unnumbered n = cond (among n (tabulate (λ x. x) 0 28)) 0 1

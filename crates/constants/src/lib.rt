@@ -133,6 +133,13 @@ pub fn class_of(kind: u16) -> Class
     }
 }
 
+// The number of the class of a kind.
+pub fn class_number(kind: u16) -> u8
+    ensures { λ r. ⌜ r ≡ classNumber (classOf kind) ⌝ }
+{
+    (code_of(kind) / 4) as u8
+}
+
 // Whether records of this kind open or close a scope.
 pub fn role_of(kind: u16) -> Role
     ensures { λ r. ⌜ r ≡ roleOf kind ⌝ }
@@ -168,42 +175,6 @@ pub fn is_filler(kind: u16) -> bool
     ensures { λ r. ⌜ r ≡ isFiller kind ⌝ }
 {
     (kind == S_ALIGN) | (kind == S_SKIP)
-}
-
-// The number of a class, to print it or to compare two.
-pub fn class_number(c: Class) -> u8
-    ensures { λ r. ⌜ r ≡ classNumber c ⌝ }
-{
-    match c {
-        Class::Unknown => return 0,
-        Class::ScopeEnd => return 1,
-        Class::ObjName => return 2,
-        Class::RegisterVariable => return 3,
-        Class::Constant => return 4,
-        Class::UserDefinedType => return 5,
-        Class::MultiRegisterVariable => return 6,
-        Class::Data => return 7,
-        Class::Public => return 8,
-        Class::Procedure => return 9,
-        Class::ThreadStorage => return 10,
-        Class::CompileFlags => return 11,
-        Class::UsingNamespace => return 12,
-        Class::ProcedureReference => return 13,
-        Class::DataReference => return 14,
-        Class::AnnotationReference => return 15,
-        Class::Trampoline => return 16,
-        Class::Export => return 17,
-        Class::Local => return 18,
-        Class::BuildInfo => return 19,
-        Class::InlineSite => return 20,
-        Class::InlineSiteEnd => return 21,
-        Class::ProcedureEnd => return 22,
-        Class::Label => return 23,
-        Class::Block => return 24,
-        Class::RegisterRelative => return 25,
-        Class::Thunk => return 26,
-        Class::SeparatedCode => return 27,
-    }
 }
 
 // What an unknown processor and an unknown language read as.

@@ -1,4 +1,3 @@
-pub mod Written
 pub mod Fields
 pub mod Flags
 pub mod Record

@@ -1,15 +1,9 @@
-// The fields of decoded records that are no plain numbers, as words, and a few words stored at once.
-mod put;
-
+// The fields of decoded records that are no plain numbers, as words.
 ghost use mathlib.Core.Path.{_≡_};
 ghost use Prim.Native.Nat.{_+_, _*_, _<_, _^_};
 ghost use Rattle.records.specs.Field.{orZero32};
 ghost use Rattle.field_words.specs.Fields.{truth, has16, orZero16, has32, hasPart, startOrZero, lenOrZero, variantNumber, variantValue, trampolineNumber, thunkNumber, thunkValue, targetStart, targetLen};
 ghost use Rattle.field_words.specs.Flags.{publicBits, procedureBits, compileBits, exportBits, localBits, separatedBits};
-pub use put::put2;
-pub use put::put3;
-pub use put::put5;
-pub use put::put6;
 use records::CompileFlags;
 use records::ExportSymbolFlags;
 use records::LocalVariableFlags;

@@ -5,8 +5,8 @@ use mathlib.Core.List.{List, [], _∷_}
 use Prim.Native.Nat.{ℕ}
 use Rattle.constants.specs.Kind.{startsScope, endsScope}
 use Rattle.field_words.specs.Fields.{truth}
-use Rattle.field_words.specs.Written.{written}
-use Rattle.mitrelilac.specs.Reply.{Reply, Replied}
+use Rattle.reply.specs.Written.{written}
+use Rattle.reply.specs.Reply.{Reply, Replied}
 use Rattle.mitrelilac.specs.Replies.{kindReply}
 
 -- the reply to an answer is the reply to what the answer is equal to

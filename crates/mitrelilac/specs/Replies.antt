@@ -14,12 +14,9 @@ use Rattle.iter.specs.declared.Next.{Next}
 use Rattle.iter.specs.declared.Next.the-variants as N
 use Rattle.check_nesting.specs.declared.Checked.{Checked}
 use Rattle.check_nesting.specs.declared.Checked.the-variants as C
-use Rattle.chain.specs.declared.Chain.{Chain}
-use Rattle.finding.specs.declared.Outcome.{Outcome}
-use Rattle.finding.specs.declared.Outcome.the-variants as O
 use Rattle.finding.specs.declared.Finding.{Finding}
 use Rattle.climb.specs.declared.Ascent.{Ascent}
-use Rattle.mitrelilac.specs.Reply.{Reply, answers, refuses}
+use Rattle.reply.specs.Reply.{Reply, answers, refuses, chainReply}
 
 -- Step: "End, with the position"; "index (position of the length field), the record's bytes (kind first), next position". The bytes are
 -- given as where they start and how many they are.
@@ -53,12 +50,7 @@ abbrev pub checkReply : Checked → Reply
 checkReply (C.Good n) = answers (n .records ∷ n .bytes ∷ n .passed ∷ n .skipped ∷ n .openers ∷ n .deepest ∷ [])
 checkReply (C.Refused e) = refuses e
 
--- "A chain holds up to 64 positions and a count; unused places are 0": the number of records read or of links climbed, the count, and
--- the 64 places
-abbrev pub chainReply : Outcome → ℕ → Chain → Reply
-chainReply O.Answer count chain = answers (count ∷ chain .depth ∷ chain .at)
-chainReply (O.Refused e) count chain = refuses e
-
+-- Walk and jump with the number of records read, climb with that of links
 abbrev pub findingReply : Finding → Reply
 findingReply f = chainReply (f .out) (f .read) (f .chain)
 

@@ -2,10 +2,6 @@
 //
 // A call that answers returns 0 and writes its words to those lent to it, from place 0 on; one that refuses returns the number of the
 // refusal and writes two, position and detail. Every other word stays as it was. No call keeps a reference or allocates.
-ghost use mathlib.Core.Path.{_≡_};
-ghost use mathlib.Core.List.{_∷_};
-ghost use Prim.Native.Nat.{_≤_};
-ghost use lib.ListN.{length};
 ghost use Rattle.kind.specs.Raw.{rawKind};
 ghost use Rattle.symbol.specs.Decode.{decode};
 ghost use Rattle.symbol_name.specs.Name.{nameOf};
@@ -15,26 +11,14 @@ ghost use Rattle.check_nesting.specs.Check.{checkOf};
 ghost use Rattle.walk.specs.Walk.{walkOf};
 ghost use Rattle.jump.specs.Jump.{jumpOf};
 ghost use Rattle.climb.specs.Climb.{climbOf};
-ghost use Rattle.field_words.specs.Written.{written};
-ghost use Rattle.mitrelilac.specs.Reply.{Replied, refuses};
-ghost use Rattle.mitrelilac.specs.Replies.{stepReply, kindReply, decodeReply, nameReply, entryReply, checkReply, chainReply, findingReply, ascentReply};
-use chain::Chain;
+ghost use Rattle.reply.specs.Reply.{Replied};
+ghost use Rattle.mitrelilac.specs.Replies.{stepReply, kindReply, decodeReply, nameReply, entryReply, checkReply, findingReply, ascentReply};
 use check_nesting::Checked;
-use common::Refusal;
-use finding::Outcome;
 use iter::Next;
 use records::Decoded;
 use records::OptionPart;
 use registers::ParsedEntry;
 use symbol_name::Named;
-
-fn refuse(out: &mut [u64], e: Refusal) -> u32
-    requires { ⌜ 2 ≤ length (now out) ⌝ }
-    ensures { λ r. ⌜ Replied (refuses e) r (now (out .entry)) (now (out .exit)) ⌝ }
-{
-    field_words::put2(out, e.position as u64, e.detail);
-    e.number as u32
-}
 
 // One step from a position. End: 0 and the position. A record: 1, its index, where its bytes start, how many they are, and the next
 // position.
@@ -44,7 +28,7 @@ pub extern "C" fn mitrelilac_step(stream: &[u8], position: usize, out: &mut [u64
 {
     match iter::step(stream, position) {
         Next::End(at) => {
-            field_words::put2(out, 0, at as u64);
+            reply::put2(out, 0, at as u64);
             return 0;
         }
         Next::Record {
@@ -53,10 +37,10 @@ pub extern "C" fn mitrelilac_step(stream: &[u8], position: usize, out: &mut [u64
             len,
             next,
         } => {
-            field_words::put5(out, 1, index as u64, start as u64, len as u64, next as u64);
+            reply::put5(out, 1, index as u64, start as u64, len as u64, next as u64);
             return 0;
         }
-        Next::Refused(e) => return refuse(out, e),
+        Next::Refused(e) => return reply::refuse(out, e),
     }
 }
 
@@ -68,7 +52,7 @@ pub extern "C" fn mitrelilac_kind(rec: &[u8], out: &mut [u64; 3]) -> u32
     let kind = kind::raw_kind(rec);
     let opener = words::truth(kind::starts_scope(rec));
     let closer = words::truth(kind::ends_scope(rec));
-    field_words::put3(out, kind as u64, opener, closer);
+    reply::put3(out, kind as u64, opener, closer);
     0
 }
 
@@ -82,7 +66,7 @@ pub extern "C" fn mitrelilac_decode(rec: &[u8], out: &mut [u64; 24]) -> u32
             record_words::write_record(d, consumed, out);
             return 0;
         }
-        Decoded::Refused(e) => return refuse(out, e),
+        Decoded::Refused(e) => return reply::refuse(out, e),
     }
 }
 
@@ -94,15 +78,15 @@ pub extern "C" fn mitrelilac_name(rec: &[u8], out: &mut [u64; 3]) -> u32
     match symbol_name::name(rec) {
         Named::Answer(has) => match has {
             OptionPart::Some(p) => {
-                field_words::put3(out, 1, p.start as u64, p.len as u64);
+                reply::put3(out, 1, p.start as u64, p.len as u64);
                 return 0;
             }
             OptionPart::None => {
-                field_words::put3(out, 0, 0, 0);
+                reply::put3(out, 0, 0, 0);
                 return 0;
             }
         },
-        Named::Refused(e) => return refuse(out, e),
+        Named::Refused(e) => return reply::refuse(out, e),
     }
 }
 
@@ -114,7 +98,7 @@ pub extern "C" fn mitrelilac_register_entry(rec: &[u8], k: usize, out: &mut [u64
     match register_entry::register_entry(rec, k) {
         ParsedEntry::Value(entry, _) => {
             let name = entry.name;
-            field_words::put3(
+            reply::put3(
                 out,
                 entry.register as u64,
                 name.start as u64,
@@ -122,7 +106,7 @@ pub extern "C" fn mitrelilac_register_entry(rec: &[u8], k: usize, out: &mut [u64
             );
             return 0;
         }
-        ParsedEntry::Refused(e) => return refuse(out, e),
+        ParsedEntry::Refused(e) => return reply::refuse(out, e),
     }
 }
 
@@ -133,7 +117,7 @@ pub extern "C" fn mitrelilac_check(stream: &[u8], start: usize, out: &mut [u64; 
 {
     match check_nesting::check(stream, start) {
         Checked::Good(n) => {
-            field_words::put6(
+            reply::put6(
                 out,
                 n.records as u64,
                 n.bytes as u64,
@@ -144,35 +128,7 @@ pub extern "C" fn mitrelilac_check(stream: &[u8], start: usize, out: &mut [u64; 
             );
             return 0;
         }
-        Checked::Refused(e) => return refuse(out, e),
-    }
-}
-
-// Writes a count, and the depth and the places of a chain. The places are lent and not passed by value, so that their number is known.
-fn put_chain(out: &mut [u64], count: usize, depth: usize, at: &[u32])
-    requires { ⌜ length (now at) ≡ 64 ⌝ }
-    requires { ⌜ 66 ≤ length (now out) ⌝ }
-    ensures { λ _. ⌜ now (out .exit) ≡ written (count ∷ depth ∷ now (at .entry)) (now (out .entry)) ⌝ }
-{
-    field_words::put2(out, count as u64, depth as u64);
-    let mut k: usize = 0;
-    while k < 64 {
-        out[2 + k] = at[k] as u64;
-        k = k + 1;
-    }
-}
-
-// The reply of a finder, with its count of records read or of links.
-fn reply_chain(found: Outcome, count: usize, chain: Chain, out: &mut [u64; 66]) -> u32
-    ensures { λ r. ⌜ Replied (chainReply found count chain) r (now (out .entry)) (now (out .exit)) ⌝ }
-{
-    match found {
-        Outcome::Answer => {
-            let depth = chain.depth;
-            put_chain(out, count, depth, &chain.at);
-            return 0;
-        }
-        Outcome::Refused(e) => return refuse(out, e),
+        Checked::Refused(e) => return reply::refuse(out, e),
     }
 }
 
@@ -185,7 +141,7 @@ pub extern "C" fn mitrelilac_walk(stream: &[u8], start: usize, i: usize, out: &m
     let f = walk::walk(stream, start, i);
     let found = f.out;
     let chain = f.chain;
-    reply_chain(found, f.read, chain, out)
+    reply::reply_chain(found, f.read, chain, out)
 }
 
 // The same as walking, where scopes that close before i are jumped over.
@@ -196,7 +152,7 @@ pub extern "C" fn mitrelilac_jump(stream: &[u8], start: usize, i: usize, out: &m
     let f = jump::jump(stream, start, i);
     let found = f.out;
     let chain = f.chain;
-    reply_chain(found, f.read, chain, out)
+    reply::reply_chain(found, f.read, chain, out)
 }
 
 // The scopes that enclose the opener at i, by parent fields: the number of links, how many scopes there are, and 64 places that list
@@ -208,5 +164,5 @@ pub extern "C" fn mitrelilac_climb(stream: &[u8], i: usize, out: &mut [u64; 66])
     let a = climb::climb(stream, i);
     let found = a.out;
     let chain = a.chain;
-    reply_chain(found, a.links, chain, out)
+    reply::reply_chain(found, a.links, chain, out)
 }

@@ -9,7 +9,7 @@ use lib.ListN.{length, take, drop}
 use lib.Seq.{sets, sets-eq, length-sets, length-take-le, drop-at}
 use Rattle.records.specs.declared.SymbolData.{SymbolData}
 use Rattle.records.specs.declared.SymbolData.the-variants as D
-use Rattle.field_words.specs.Written.{written}
+use Rattle.reply.specs.Written.{written}
 use Rattle.field_words.specs.Record.{classNumber, fields, recordWords}
 use Rattle.field_words.specs.Stored.{Stored}
 

@@ -1,6 +1,6 @@
 // A decoded record as words, in places that the caller lends: the number of its class, the bytes consumed, and its fields.
 ghost use mathlib.Core.Path.{_≡_};
-ghost use Rattle.field_words.specs.Written.{written};
+ghost use Rattle.reply.specs.Written.{written};
 ghost use Rattle.field_words.specs.Record.{recordWords};
 ghost use Rattle.field_words.specs.Stored.{Stored};
 use records::SymbolData;
@@ -45,5 +45,5 @@ pub fn write_record(d: SymbolData, consumed: usize, out: &mut [u64; 24])
     ensures { λ _. ⌜ now (out .exit) ≡ written (recordWords d consumed) (now (out .entry)) ⌝ }
 {
     let class = put_fields(d, out);
-    field_words::put2(out, class, consumed as u64);
+    reply::put2(out, class, consumed as u64);
 }

@@ -22,7 +22,7 @@ fn nothing_there() -> ParsedEntry
 fn is_list(kind: u16) -> bool
     ensures { λ r. ⌜ r ≡ isList kind ⌝ }
 {
-    constants::class_number(constants::class_of(kind)) == 6
+    constants::class_number(kind) == 6
 }
 
 // The entry k of a list whose count and first entry were found.

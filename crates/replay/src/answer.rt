@@ -1,7 +1,7 @@
 // Our answers. Records, streams and their scopes are asked through the functions that C calls.
-use crate::reply::FREE;
-use crate::reply::Words;
-use crate::reply::words_of;
+use crate::told::FREE;
+use crate::told::Words;
+use crate::told::words_of;
 use common::ParsedU8;
 use common::ParsedU16;
 use common::ParsedU32;
@@ -95,7 +95,7 @@ fn numeric(s: &[u8], at: usize) -> Words {
 }
 
 fn kind(k: u16) -> Words {
-    let class = constants::class_number(constants::class_of(k)) as u64;
+    let class = constants::class_number(k) as u64;
     let opener = words::truth(constants::starts_scope(k));
     let closer = words::truth(constants::ends_scope(k));
     let out = [class, opener, closer];

@@ -6,7 +6,7 @@ ghost use lib.ListN.{length};
 
 mod answer;
 mod list;
-mod reply;
+mod told;
 
 use list::Tally;
 

@@ -3,7 +3,10 @@ use Prim.Native.Nat.{ℕ}
 use mathlib.Core.Path.{_≡_}
 use mathlib.Core.List.{List, [], _∷_}
 use Rattle.common.specs.declared.Refusal.{Refusal}
-use Rattle.field_words.specs.Written.{written}
+use Rattle.chain.specs.declared.Chain.{Chain}
+use Rattle.finding.specs.declared.Outcome.{Outcome}
+use Rattle.finding.specs.declared.Outcome.the-variants.{Answer, Refused}
+use Rattle.reply.specs.Written.{written}
 
 pub record Reply : Type 0 where
   pub number : ℕ
@@ -21,3 +24,9 @@ answers words = record { number = 0; words = words }
 -- A refusal carries its number, its position (0 where none is said), for 3 the kind, for 4 the prefix, and no more.
 abbrev pub refuses : Refusal → Reply
 refuses e = record { number = e .number; words = e .position ∷ e .detail ∷ [] }
+
+-- "A chain holds up to 64 positions and a count; unused places are 0": the number of records read or of links climbed, the count, and
+-- the 64 places
+abbrev pub chainReply : Outcome → ℕ → Chain → Reply
+chainReply Answer count chain = answers (count ∷ chain .depth ∷ chain .at)
+chainReply (Refused e) count chain = refuses e

@@ -1,12 +1,12 @@
--- `field_words::put::put2` meets its contract.
+-- `reply::put2` meets its contract.
 -- Assumes nothing.
 use borrow.Author.Needs.{needs}
 use native.Mathlib.Omega.{arith}
 use mathlib.Core.List.{[], _∷_}
 use lib.ListN.{length-set}
-use Rattle.field_words.proofs.Stores.{stored}
-use Rattle.field_words.proofs.put.put2.Statement.{statement}
-use Rattle.field_words.proofs.put.put2.Tie as tie
+use Rattle.reply.proofs.Stores.{stored}
+use Rattle.reply.proofs.put2.Statement.{statement}
+use Rattle.reply.proofs.put2.Tie as tie
 
 slice-write-out : tie.Need-slice-write-out
 slice-write-out c = search needs

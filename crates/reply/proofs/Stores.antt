@@ -7,7 +7,7 @@ use native.Mathlib.Omega.{arith}
 use native.Mathlib.Nat.{zero-add}
 use lib.ListN.{length, drop}
 use lib.Seq.{sets, sets-eq}
-use Rattle.field_words.specs.Written.{written}
+use Rattle.reply.specs.Written.{written}
 
 -- stores from place 0 on
 pub stored : (words before : List ℕ) → length words ≤ length before → sets before 0 words ≡ written words before

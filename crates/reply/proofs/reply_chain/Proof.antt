@@ -1,9 +1,9 @@
--- `mitrelilac::reply_chain` meets its contract.
+-- `reply::reply_chain` meets its contract.
 -- Assumes nothing.
 use borrow.Author.Needs.{needs}
 use mathlib.Core.Path.{refl}
-use Rattle.mitrelilac.proofs.reply_chain.Statement.{statement}
-use Rattle.mitrelilac.proofs.reply_chain.Tie as tie
+use Rattle.reply.proofs.reply_chain.Statement.{statement}
+use Rattle.reply.proofs.reply_chain.Tie as tie
 
 enum-told : tie.Need-enum-told
 enum-told c = search needs

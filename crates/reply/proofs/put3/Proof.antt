@@ -1,12 +1,12 @@
--- `field_words::put::put3` meets its contract.
+-- `reply::put3` meets its contract.
 -- Assumes nothing.
 use borrow.Author.Needs.{needs}
 use native.Mathlib.Omega.{arith}
 use mathlib.Core.List.{[], _∷_}
 use lib.ListN.{length-set}
-use Rattle.field_words.proofs.Stores.{stored}
-use Rattle.field_words.proofs.put.put3.Statement.{statement}
-use Rattle.field_words.proofs.put.put3.Tie as tie
+use Rattle.reply.proofs.Stores.{stored}
+use Rattle.reply.proofs.put3.Statement.{statement}
+use Rattle.reply.proofs.put3.Tie as tie
 
 slice-write-out : tie.Need-slice-write-out
 slice-write-out c = search needs

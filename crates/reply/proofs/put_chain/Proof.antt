@@ -1,11 +1,11 @@
--- `mitrelilac::put_chain` meets its contract. The loop's invariant: k places of the chain are stored.
+-- `reply::put_chain` meets its contract. The loop's invariant: k places of the chain are stored.
 -- Assumes nothing.
 use native.Mathlib.Omega.{arith}
 use mathlib.Core.Path.{_∙_}
 use Prim.Native.Nat.{_-_}
-use Rattle.mitrelilac.proofs.Chains.{Storing, storing-none, storing-more, storing-length, storing-all}
-use Rattle.mitrelilac.proofs.put_chain.Statement.{statement}
-use Rattle.mitrelilac.proofs.put_chain.Tie as tie
+use Rattle.reply.proofs.Chains.{Storing, storing-none, storing-more, storing-length, storing-all}
+use Rattle.reply.proofs.put_chain.Statement.{statement}
+use Rattle.reply.proofs.put_chain.Tie as tie
 
 abbrev Inv-loop : tie.InvT-loop
 Inv-loop out₀ count depth at k₀ out k = Storing out₀ at out k
