@@ -21,7 +21,9 @@ use Rattle.records.specs.Field.{indexOf, orZero32}
 use Rattle.records.specs.declared.OptionPart.{OptionPart}
 use Rattle.records.specs.declared.OptionU32.the-variants as U32
 use Rattle.records.specs.declared.SymbolData.{SymbolData}
-use Rattle.scopes.specs.Scope.{procedure, plainSite, countedSite, inlineSite, block, separatedCode}
+use Rattle.procedures.specs.Procedure.{procedure}
+use Rattle.blocks.specs.Block.{block, separatedCode}
+use Rattle.inline_sites.specs.Inline.{plainSite, countedSite, inlineSite}
 use Rattle.thunks.specs.Thunk.{thunk}
 use Rattle.symbol.specs.Decode.{layout, byKind, decode}
 use Rattle.symbol_name.specs.Name.{namedBy, nameOf}

@@ -20,7 +20,7 @@ use Rattle.iter.specs.Reading.{readFrom, readOf}
 use Rattle.iter.specs.Step.{frameAt, scanFrom, scanOf, stepOf}
 use Rattle.iter.specs.declared.Next.the-variants.{End, Refused}
 use Rattle.kind.specs.Raw.{rawKind, nestingRoleOf}
-use Rattle.scopes.specs.Scope as S
+use Rattle.blocks.specs.Block as S
 use Rattle.links.specs.Links.{linksOf}
 use Rattle.chain.specs.Chain.{chainOf}
 use Rattle.check_nesting.specs.Check as C

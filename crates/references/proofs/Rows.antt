@@ -7,16 +7,8 @@ use lib.ListN.{length}
 use Rattle.common.specs.Reader.{value, refused, runsOut, Reader, _>>=_}
 use Rattle.common.specs.declared.Refusal.{Refusal}
 use Rattle.common.proofs.Rows.{filled, tailed, tailed-value, tailed-refused, tailed-short}
-use Rattle.names.specs.Name.{symbolName}
 use Rattle.records.specs.declared.SymbolData.{SymbolData}
-use Rattle.references.specs.Reference.{publicSymbol, publicOf, exportSymbol, exportOf, reference}
-
-abbrev pub publicRow : List ℕ
-publicRow = 4 ∷ 4 ∷ 2 ∷ []
-
-pub public-row : (kind : ℕ) (s : List ℕ) (at : ℕ) → tailed publicRow (symbolName kind) publicOf s at ≡ publicSymbol kind s at
-unfolding tailed publicSymbol
-public-row kind s at = refl
+use Rattle.references.specs.Reference.{reference}
 
 abbrev pub referenceRow : List ℕ
 referenceRow = 4 ∷ 4 ∷ 2 ∷ []
@@ -35,10 +27,3 @@ module _ {N : Type 0} (itsName : Reader N) (make : ℕ → ℕ → ℕ → N →
 
   pub reference-short : length s < at + 10 → refused runsOut ≡ reference itsName make s at
   reference-short h = tailed-short 4 (4 ∷ 2 ∷ []) itsName make s at h ∙ reference-row
-
-abbrev pub exportRow : List ℕ
-exportRow = 2 ∷ 2 ∷ []
-
-pub export-row : (kind : ℕ) (s : List ℕ) (at : ℕ) → tailed exportRow (symbolName kind) exportOf s at ≡ exportSymbol kind s at
-unfolding tailed exportSymbol
-export-row kind s at = refl

@@ -1,29 +1,15 @@
--- The records that other modules look names up by (cvinfo.h, the structure named at each).
+-- References to what another module holds (cvinfo.h, the structure named at each).
 use Prim.Native.Nat.{ℕ}
 use mathlib.Core.Bool.{Bool, cond, _||_}
 use lib.Dec.{eqb, ltb}
 use Rattle.common.specs.Reader.{Reader, _>>=_, done, u16, u32}
 use Rattle.names.specs.Name.{cstring, symbolName}
 use Rattle.names.specs.declared.Part.{Part}
-use Rattle.records.specs.Field.{place, moduleOf}
-use Rattle.records.specs.Flags.{publicFlags, exportFlags}
+use Rattle.records.specs.Field.{moduleOf}
 use Rattle.records.specs.declared.OptionPart.{OptionPart}
 use Rattle.records.specs.declared.OptionPart.the-variants.{None, Some}
 use Rattle.records.specs.declared.SymbolData.{SymbolData}
-use Rattle.records.specs.declared.SymbolData.the-variants.{Public, ProcedureReference, DataReference, AnnotationReference, Export}
-
--- PUBSYM32
-abbrev pub publicOf : ℕ → ℕ → ℕ → Part → SymbolData
-publicOf flags offset section name =
-    Public (record { flags = publicFlags flags; offset = place offset section; name = name })
-
-unfoldable pub publicSymbol : ℕ → Reader SymbolData
-publicSymbol kind = do
-  flags ← u32
-  offset ← u32
-  section ← u16
-  name ← symbolName kind
-  done (publicOf flags offset section name)
+use Rattle.records.specs.declared.SymbolData.the-variants.{ProcedureReference, DataReference, AnnotationReference}
 
 -- The name of a procedure or data reference: kinds below 0x1100 (S_ST_MAX) read no name and have none, the others bytes up to a zero.
 -- Those below are REFSYM in cvinfo.h: it ends in a fill u16, and a hidden name may follow the record; pdb reads neither.
@@ -71,14 +57,3 @@ annotationReferenceOf sum symbol imod name =
 
 unfoldable pub annotationReference : ℕ → Reader SymbolData
 annotationReference kind = reference (symbolName kind) annotationReferenceOf
-
--- EXPORTSYM: its flags are single bits of a u16
-abbrev pub exportOf : ℕ → ℕ → Part → SymbolData
-exportOf ordinal flags name = Export (record { ordinal = ordinal; flags = exportFlags flags; name = name })
-
-unfoldable pub exportSymbol : ℕ → Reader SymbolData
-exportSymbol kind = do
-  ordinal ← u16
-  flags ← u16
-  name ← symbolName kind
-  done (exportOf ordinal flags name)

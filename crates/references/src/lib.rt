@@ -1,9 +1,9 @@
-// The records that other modules look names up by: publics, exports, and references to what another module holds.
+// References to what another module holds: procedures, data and annotations.
 //
 // The arms of a match return: where they met, one more `Decoded` would stand at every step of the proof.
 ghost use mathlib.Core.Path.{_≡_};
 ghost use Rattle.records.specs.Answer.{decodedOf};
-ghost use Rattle.references.specs.Reference.{publicSymbol, exportSymbol, optionalName, procedureReference, dataReference, annotationReference};
+ghost use Rattle.references.specs.Reference.{optionalName, procedureReference, dataReference, annotationReference};
 ghost use Rattle.references.specs.Answer.{optionalOf};
 use common::Refusal;
 use constants::S_PROCREF;
@@ -13,36 +13,9 @@ use names::S_ST_MAX;
 use records::AnnotationReferenceSymbol;
 use records::DataReferenceSymbol;
 use records::Decoded;
-use records::ExportSymbol;
-use records::ExportSymbolFlags;
 use records::OptionPart;
 use records::ProcedureReferenceSymbol;
-use records::PublicFlags;
-use records::PublicSymbol;
-use records::SectionOffset;
 use records::SymbolData;
-
-pub fn parse_public(s: &[u8], kind: u16) -> Decoded
-    ensures { λ r. ⌜ decodedOf r ≡ publicSymbol kind (now (s .entry)) 2 ⌝ }
-{
-    if s.len() < 12 {
-        return Decoded::Refused(Refusal::UNEXPECTED_EOF);
-    }
-    match names::parse_symbol_name(s, 12, kind) {
-        ParsedPart::Value(name, next) => {
-            let data = PublicSymbol {
-                flags: PublicFlags::from_bits(common::u32_at(s, 2)),
-                offset: SectionOffset {
-                    offset: common::u32_at(s, 6),
-                    section: common::u16_at(s, 10),
-                },
-                name,
-            };
-            return Decoded::Record(SymbolData::Public(data), next);
-        }
-        ParsedPart::Refused(e) => return Decoded::Refused(e),
-    }
-}
 
 // What reading a name that may be missing answers: the name or none, and the position after it, or the refusal.
 pub enum ParsedOptionPart {
@@ -119,25 +92,6 @@ pub fn parse_annotation_reference(s: &[u8], kind: u16) -> Decoded
                 name,
             };
             return Decoded::Record(SymbolData::AnnotationReference(data), next);
-        }
-        ParsedPart::Refused(e) => return Decoded::Refused(e),
-    }
-}
-
-pub fn parse_export(s: &[u8], kind: u16) -> Decoded
-    ensures { λ r. ⌜ decodedOf r ≡ exportSymbol kind (now (s .entry)) 2 ⌝ }
-{
-    if s.len() < 6 {
-        return Decoded::Refused(Refusal::UNEXPECTED_EOF);
-    }
-    match names::parse_symbol_name(s, 6, kind) {
-        ParsedPart::Value(name, next) => {
-            let data = ExportSymbol {
-                ordinal: common::u16_at(s, 2),
-                flags: ExportSymbolFlags::from_bits(common::u16_at(s, 4)),
-                name,
-            };
-            return Decoded::Record(SymbolData::Export(data), next);
         }
         ParsedPart::Refused(e) => return Decoded::Refused(e),
     }

@@ -6,7 +6,7 @@ use mathlib.Core.List.{List, [], _∷_}
 use Rattle.common.specs.Reader.{_>>=_}
 use Rattle.common.proofs.Rows.{tailed}
 use Rattle.names.specs.Name.{symbolName}
-use Rattle.storage.specs.Storage.{dataItem, dataOf, threadStorage, threadStorageOf, local, localOf, registerRelative, registerRelativeOf}
+use Rattle.storage.specs.Storage.{dataItem, dataOf, threadStorage, threadStorageOf}
 
 abbrev pub dataRow : List ℕ
 dataRow = 4 ∷ 4 ∷ 2 ∷ []
@@ -21,17 +21,3 @@ threadStorageRow = 4 ∷ 4 ∷ 2 ∷ []
 pub thread-storage-row : (kind : ℕ) (s : List ℕ) (at : ℕ) → tailed threadStorageRow (symbolName kind) (threadStorageOf kind) s at ≡ threadStorage kind s at
 unfolding tailed threadStorage
 thread-storage-row kind s at = refl
-
-abbrev pub localRow : List ℕ
-localRow = 4 ∷ 2 ∷ []
-
-pub local-row : (kind : ℕ) (s : List ℕ) (at : ℕ) → tailed localRow (symbolName kind) localOf s at ≡ local kind s at
-unfolding tailed local
-local-row kind s at = refl
-
-abbrev pub registerRelativeRow : List ℕ
-registerRelativeRow = 4 ∷ 4 ∷ 2 ∷ []
-
-pub register-relative-row : (kind : ℕ) (s : List ℕ) (at : ℕ) → tailed registerRelativeRow (symbolName kind) registerRelativeOf s at ≡ registerRelative kind s at
-unfolding tailed registerRelative
-register-relative-row kind s at = refl

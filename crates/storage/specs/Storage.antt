@@ -2,14 +2,12 @@
 use Prim.Native.Nat.{ℕ}
 use mathlib.Core.Bool.{Bool, _||_}
 use lib.Dec.{eqb}
-use Rattle.common.specs.Bytes.{signed}
 use Rattle.common.specs.Reader.{Reader, _>>=_, done, u16, u32}
 use Rattle.names.specs.Name.{symbolName}
 use Rattle.names.specs.declared.Part.{Part}
 use Rattle.records.specs.Field.{place}
-use Rattle.records.specs.Flags.{localFlags}
 use Rattle.records.specs.declared.SymbolData.{SymbolData}
-use Rattle.records.specs.declared.SymbolData.the-variants.{Data, ThreadStorage, Local, RegisterRelative}
+use Rattle.records.specs.declared.SymbolData.the-variants.{Data, ThreadStorage}
 
 -- S_GDATA32, S_GDATA32_ST, S_GMANDATA, S_GMANDATA_ST
 abbrev pub globalData : ℕ → Bool
@@ -55,27 +53,3 @@ threadStorage kind = do
   section ← u16
   name ← symbolName kind
   done (threadStorageOf kind type offset section name)
-
--- LOCALSYM
-abbrev pub localOf : ℕ → ℕ → Part → SymbolData
-localOf type flags name = Local (record { «type_index» = type; flags = localFlags flags; name = name })
-
-unfoldable pub local : ℕ → Reader SymbolData
-local kind = do
-  type ← u32
-  flags ← u16
-  name ← symbolName kind
-  done (localOf type flags name)
-
--- REGREL32; its offset is unsigned in cvinfo.h, and pdb reads it signed
-abbrev pub registerRelativeOf : ℕ → ℕ → ℕ → Part → SymbolData
-registerRelativeOf offset type register name =
-    RegisterRelative (record { offset = signed 32 offset; «type_index» = type; register = register; name = name })
-
-unfoldable pub registerRelative : ℕ → Reader SymbolData
-registerRelative kind = do
-  offset ← u32
-  type ← u32
-  register ← u16
-  name ← symbolName kind
-  done (registerRelativeOf offset type register name)

@@ -4,24 +4,29 @@ use mathlib.Core.List.{List}
 use mathlib.Core.Bool.{cond}
 use lib.ListN.{length}
 use lib.Dec.{ltb}
-use Rattle.common.specs.Reader.{Read, refused, refusal, Reader, _>>=_, done, refuse, u16}
+use Rattle.common.specs.Reader.{Read, refused, refusal, Reader, _>>=_, refuse, u16}
 use Rattle.constants.specs.Kind.{classOf}
 use Rattle.constants.specs.declared.Class.{Class}
 use Rattle.constants.specs.declared.Class.the-variants.{Unknown, ScopeEnd, ObjName, RegisterVariable, Constant, UserDefinedType, MultiRegisterVariable, Data, Public, Procedure, ThreadStorage, CompileFlags, UsingNamespace, ProcedureReference, DataReference, AnnotationReference, Trampoline, Export, Local, BuildInfo, InlineSite, InlineSiteEnd, ProcedureEnd, Label, Block, RegisterRelative, Thunk, SeparatedCode}
 use Rattle.records.specs.declared.SymbolData.{SymbolData}
-use Rattle.records.specs.declared.SymbolData.the-variants as D
-use Rattle.modules.specs.Module.{objName, compile, usingNamespace, buildInfo}
+use Rattle.modules.specs.Module.{objName, usingNamespace, buildInfo}
+use Rattle.compile_flags.specs.Compile.{compile}
 use Rattle.variables.specs.Variable.{registerVariable, constant, userDefinedType}
-use Rattle.storage.specs.Storage.{dataItem, threadStorage, local, registerRelative}
+use Rattle.storage.specs.Storage.{dataItem, threadStorage}
+use Rattle.locals.specs.Local.{local, registerRelative}
 use Rattle.registers.specs.Registers.{multiRegisterVariable}
-use Rattle.references.specs.Reference.{publicSymbol, procedureReference, dataReference, annotationReference, exportSymbol}
-use Rattle.scopes.specs.Scope.{procedure, inlineSite, block, separatedCode}
-use Rattle.thunks.specs.Thunk.{trampoline, label, thunk}
+use Rattle.references.specs.Reference.{procedureReference, dataReference, annotationReference}
+use Rattle.linkage.specs.Linkage.{publicSymbol, exportSymbol, trampoline}
+use Rattle.procedures.specs.Procedure.{procedure, label}
+use Rattle.blocks.specs.Block.{block, separatedCode}
+use Rattle.inline_sites.specs.Inline.{inlineSite}
+use Rattle.thunks.specs.Thunk.{thunk}
+use Rattle.ends.specs.End.{scopeEnd, inlineSiteEnd, procedureEnd}
 
 -- the layout of each class; 3 with the kind where there is none
 unfoldable pub layout : Class → ℕ → Reader SymbolData
 layout Unknown kind = refuse (refusal 3 0 kind)
-layout ScopeEnd kind = done D.ScopeEnd
+layout ScopeEnd kind = scopeEnd
 layout ObjName kind = objName kind
 layout RegisterVariable kind = registerVariable kind
 layout Constant kind = constant kind
@@ -41,8 +46,8 @@ layout Export kind = exportSymbol kind
 layout Local kind = local kind
 layout BuildInfo kind = buildInfo
 layout InlineSite kind = inlineSite kind
-layout InlineSiteEnd kind = done D.InlineSiteEnd
-layout ProcedureEnd kind = done D.ProcedureEnd
+layout InlineSiteEnd kind = inlineSiteEnd
+layout ProcedureEnd kind = procedureEnd
 layout Label kind = label kind
 layout Block kind = block kind
 layout RegisterRelative kind = registerRelative kind

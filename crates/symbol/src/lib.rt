@@ -7,7 +7,6 @@ ghost use Rattle.symbol.specs.Decode.{layout, decode};
 use common::Refusal;
 use constants::Class;
 use records::Decoded;
-use records::SymbolData;
 
 // The longest record that is decoded.
 pub const MAX_RECORD: usize = 0xffff;
@@ -28,33 +27,33 @@ fn parse_by_kind(s: &[u8], kind: u16) -> Decoded
 {
     match constants::class_of(kind) {
         Class::Unknown => return unimplemented(kind),
-        Class::ScopeEnd => return Decoded::Record(SymbolData::ScopeEnd, 2),
+        Class::ScopeEnd => return ends::parse_scope_end(),
         Class::ObjName => return modules::parse_obj_name(s, kind),
         Class::RegisterVariable => return variables::parse_register_variable(s, kind),
         Class::Constant => return variables::parse_constant(s, kind),
         Class::UserDefinedType => return variables::parse_user_defined_type(s, kind),
         Class::MultiRegisterVariable => return registers::parse_multi_register_variable(s, kind),
         Class::Data => return storage::parse_data(s, kind),
-        Class::Public => return references::parse_public(s, kind),
-        Class::Procedure => return scopes::parse_procedure(s, kind),
+        Class::Public => return linkage::parse_public(s, kind),
+        Class::Procedure => return procedures::parse_procedure(s, kind),
         Class::ThreadStorage => return storage::parse_thread_storage(s, kind),
-        Class::CompileFlags => return modules::parse_compile_flags(s, kind),
+        Class::CompileFlags => return compile_flags::parse_compile_flags(s, kind),
         Class::UsingNamespace => return modules::parse_using_namespace(s, kind),
         Class::ProcedureReference => return references::parse_procedure_reference(s, kind),
         Class::DataReference => return references::parse_data_reference(s, kind),
         Class::AnnotationReference => return references::parse_annotation_reference(s, kind),
-        Class::Trampoline => return thunks::parse_trampoline(s),
-        Class::Export => return references::parse_export(s, kind),
-        Class::Local => return storage::parse_local(s, kind),
+        Class::Trampoline => return linkage::parse_trampoline(s),
+        Class::Export => return linkage::parse_export(s, kind),
+        Class::Local => return locals::parse_local(s, kind),
         Class::BuildInfo => return modules::parse_build_info(s),
-        Class::InlineSite => return scopes::parse_inline_site(s, kind),
-        Class::InlineSiteEnd => return Decoded::Record(SymbolData::InlineSiteEnd, 2),
-        Class::ProcedureEnd => return Decoded::Record(SymbolData::ProcedureEnd, 2),
-        Class::Label => return thunks::parse_label(s, kind),
-        Class::Block => return scopes::parse_block(s, kind),
-        Class::RegisterRelative => return storage::parse_register_relative(s, kind),
+        Class::InlineSite => return inline_sites::parse_inline_site(s, kind),
+        Class::InlineSiteEnd => return ends::parse_inline_site_end(),
+        Class::ProcedureEnd => return ends::parse_procedure_end(),
+        Class::Label => return procedures::parse_label(s, kind),
+        Class::Block => return blocks::parse_block(s, kind),
+        Class::RegisterRelative => return locals::parse_register_relative(s, kind),
         Class::Thunk => return thunks::parse_thunk(s, kind),
-        Class::SeparatedCode => return scopes::parse_separated_code(s),
+        Class::SeparatedCode => return blocks::parse_separated_code(s),
     }
 }
 

@@ -9,20 +9,27 @@ use Rattle.common.proofs.Readers.{then-value, then-refused}
 use Rattle.names.specs.Name.{symbolName}
 use Rattle.names.specs.declared.Part.{Part}
 use Rattle.records.specs.declared.OptionPart.the-variants.{None, Some}
-use Rattle.modules.specs.Module.{buildInfo, buildInfoOf, compile2, compile3, objName, objNameOf, usingNamespace, usingNamespaceOf}
-use Rattle.modules.proofs.Rows.{build-info-row, compile2Of, compile2-row, compile3Of, compile3-row, obj-name-row}
+use Rattle.modules.specs.Module.{buildInfo, buildInfoOf, objName, objNameOf, usingNamespace, usingNamespaceOf}
+use Rattle.modules.proofs.Rows.{build-info-row, obj-name-row}
+use Rattle.compile_flags.specs.Compile.{compile2, compile3}
+use Rattle.compile_flags.proofs.Rows.{compile2Of, compile2-row, compile3Of, compile3-row}
 use Rattle.variables.specs.Variable.{registerVariable, registerVariableOf, userDefinedType, userDefinedTypeOf}
 use Rattle.variables.proofs.Rows.{register-variable-row, user-defined-type-row}
-use Rattle.storage.specs.Storage.{dataItem, dataOf, local, localOf, registerRelative, registerRelativeOf, threadStorage, threadStorageOf}
-use Rattle.storage.proofs.Rows.{data-row, local-row, register-relative-row, thread-storage-row}
-use Rattle.references.specs.Reference.{annotationReference, annotationReferenceOf, dataReference, dataReferenceOf, exportOf, exportSymbol, optionalName, procedureReference, procedureReferenceOf, publicOf, publicSymbol, reference}
-use Rattle.references.proofs.Rows.{export-row, public-row}
+use Rattle.storage.specs.Storage.{dataItem, dataOf, threadStorage, threadStorageOf}
+use Rattle.storage.proofs.Rows.{data-row, thread-storage-row}
+use Rattle.locals.specs.Local.{local, localOf, registerRelative, registerRelativeOf}
+use Rattle.locals.proofs.Rows.{local-row, register-relative-row}
+use Rattle.references.specs.Reference.{annotationReference, annotationReferenceOf, dataReference, dataReferenceOf, optionalName, procedureReference, procedureReferenceOf, reference}
+use Rattle.linkage.specs.Linkage.{exportOf, exportSymbol, publicOf, publicSymbol, trampoline, trampolineSymbolOf}
+use Rattle.linkage.proofs.Rows.{export-row, public-row, trampoline-row}
 use Rattle.registers.specs.Registers.{skip, registerList}
 use Rattle.registers.proofs.Lists.{list-value, list-refused}
-use Rattle.scopes.specs.Scope.{block, blockOf, countedSite, countedSiteOf, plainSite, plainSiteOf, procedure, procedureOf, rest, separatedCode, separatedCodeOf}
-use Rattle.scopes.proofs.Rows.{block-row, counted-row, plain-row, procedure-row, separated-row}
-use Rattle.thunks.specs.Thunk.{label, labelOf, trampoline, trampolineSymbolOf}
-use Rattle.thunks.proofs.Rows.{label-row, trampoline-row}
+use Rattle.procedures.specs.Procedure.{label, labelOf, procedure, procedureOf}
+use Rattle.procedures.proofs.Rows.{label-row, procedure-row}
+use Rattle.blocks.specs.Block.{block, blockOf, separatedCode, separatedCodeOf}
+use Rattle.blocks.proofs.Rows.{block-row, separated-row}
+use Rattle.inline_sites.specs.Inline.{countedSite, countedSiteOf, plainSite, plainSiteOf, rest}
+use Rattle.inline_sites.proofs.Rows.{counted-row, plain-row}
 use Rattle.symbol_name.specs.Name.{namedBy}
 use Rattle.symbol_name.specs.Behind.{answered, behind, namedBehind, unnamedBehind, optionalBehind, nothingBehind, entriesBehind}
 use Rattle.symbol_name.proofs.Rows.{row-name, row-no-name, room-of-name}

@@ -2,9 +2,9 @@
 ghost use mathlib.Core.Path.{_≡_};
 ghost use Rattle.constants.specs.Kind.{classOf};
 ghost use Rattle.symbol.specs.Decode.{layout};
-ghost use Rattle.modules.specs.Module.{compile};
+ghost use Rattle.compile_flags.specs.Compile.{compile};
 ghost use Rattle.registers.specs.Registers.{multiRegisterVariable};
-ghost use Rattle.scopes.specs.Scope.{inlineSite};
+ghost use Rattle.inline_sites.specs.Inline.{inlineSite};
 ghost use Rattle.thunks.specs.Thunk.{thunk};
 ghost use Rattle.variables.specs.Variable.{constant};
 ghost use Rattle.symbol_name.specs.Name.{nameOf, namedBy, nameBytes};

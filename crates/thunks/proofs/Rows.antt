@@ -8,26 +8,12 @@ use Rattle.common.specs.Bytes.{le}
 use Rattle.common.specs.Reader.{Read, value, refused, runsOut, Reader, done, next, _>>=_, uint}
 use Rattle.common.specs.declared.Refusal.{Refusal}
 use Rattle.common.proofs.Readers.{then-value, then-refused}
-use Rattle.common.proofs.Rows.{Fields, total, filled, tailed, fixed, fixed-value, fixed-short}
+use Rattle.common.proofs.Rows.{Fields, total, filled, fixed, fixed-value, fixed-short}
 use Rattle.names.specs.Name.{symbolName}
 use Rattle.names.specs.declared.Part.{Part}
 use Rattle.records.specs.declared.ThunkKind.{ThunkKind}
 use Rattle.records.specs.declared.SymbolData.{SymbolData}
-use Rattle.thunks.specs.Thunk.{trampoline, trampolineSymbolOf, label, labelOf, thunkKind, thunk, thunkOf}
-
-abbrev pub trampolineRow : List ℕ
-trampolineRow = 2 ∷ 2 ∷ 4 ∷ 4 ∷ 2 ∷ 2 ∷ []
-
-pub trampoline-row : (s : List ℕ) (at : ℕ) → fixed trampolineRow trampolineSymbolOf s at ≡ trampoline s at
-unfolding fixed trampoline
-trampoline-row s at = refl
-
-abbrev pub labelRow : List ℕ
-labelRow = 4 ∷ 2 ∷ 1 ∷ []
-
-pub label-row : (kind : ℕ) (s : List ℕ) (at : ℕ) → tailed labelRow (symbolName kind) labelOf s at ≡ label kind s at
-unfolding tailed label
-label-row kind s at = refl
+use Rattle.thunks.specs.Thunk.{thunkKind, thunk, thunkOf}
 
 -- a row whose numbers decide what is read behind it
 unfoldable leading : {A : Type 0} (ws : List ℕ) → Fields ws (Reader A) → Reader A

@@ -1,50 +1,15 @@
--- Thunks, trampolines and labels (cvinfo.h, the structure named at each).
+-- Thunks (cvinfo.h, the structure named at each).
 use Prim.Native.Nat.{ℕ}
 use mathlib.Core.Bool.{cond}
 use lib.Dec.{eqb}
 use Rattle.common.specs.Reader.{Reader, _>>=_, done, u8, u16, u32}
 use Rattle.names.specs.Name.{cstring, symbolName}
 use Rattle.names.specs.declared.Part.{Part}
-use Rattle.records.specs.Field.{indexOf, place, trampolineOf}
-use Rattle.records.specs.Flags.{procedureFlags}
+use Rattle.records.specs.Field.{indexOf, place}
 use Rattle.records.specs.declared.ThunkKind.{ThunkKind}
 use Rattle.records.specs.declared.ThunkKind.the-variants.{NoType, Adjustor, VCall, PCode, Load, Unknown}
 use Rattle.records.specs.declared.SymbolData.{SymbolData}
-use Rattle.records.specs.declared.SymbolData.the-variants.{Trampoline, Label, Thunk}
-
--- TRAMPOLINE; each offset stands apart from its section
-abbrev pub trampolineSymbolOf : ℕ → ℕ → ℕ → ℕ → ℕ → ℕ → SymbolData
-trampolineSymbolOf type size thunkOffset targetOffset thunkSection targetSection =
-    Trampoline
-    (record {
-      «tramp_type» = trampolineOf type;
-      size = size;
-      thunk = place thunkOffset thunkSection;
-      target = place targetOffset targetSection;
-    })
-
-unfoldable pub trampoline : Reader SymbolData
-trampoline = do
-  type ← u16
-  size ← u16
-  thunkOffset ← u32
-  targetOffset ← u32
-  thunkSection ← u16
-  targetSection ← u16
-  done (trampolineSymbolOf type size thunkOffset targetOffset thunkSection targetSection)
-
--- LABELSYM32
-abbrev pub labelOf : ℕ → ℕ → ℕ → Part → SymbolData
-labelOf offset section flags name =
-    Label (record { offset = place offset section; flags = procedureFlags flags; name = name })
-
-unfoldable pub label : ℕ → Reader SymbolData
-label kind = do
-  offset ← u32
-  section ← u16
-  flags ← u8
-  name ← symbolName kind
-  done (labelOf offset section flags name)
+use Rattle.records.specs.declared.SymbolData.the-variants.{Thunk}
 
 -- a delta, and a target that ends in a zero whatever the kind of the record
 unfoldable pub adjustor : Reader ThunkKind

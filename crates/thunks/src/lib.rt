@@ -1,67 +1,21 @@
-// Thunks, trampolines and labels (pdb's src/symbol/mod.rs).
+// Thunks (pdb's src/symbol/mod.rs).
 //
 // A decoder is given the whole record, kind first, so that its fields start at position 2. It tests the room of the fields
 // once, then reads them.
 // The arms of a match return: where they met, one more `Decoded` would stand at every step of the proof.
 ghost use mathlib.Core.Path.{_≡_};
 ghost use Rattle.records.specs.Answer.{decodedOf};
-ghost use Rattle.thunks.specs.Thunk.{adjustor, thunkKind, thunk, trampoline, label};
+ghost use Rattle.thunks.specs.Thunk.{adjustor, thunkKind, thunk};
 ghost use Rattle.thunks.specs.Answer.{thunkKindOf};
 use common::ParsedU16;
 use common::Refusal;
 use names::ParsedPart;
 use records::Decoded;
-use records::LabelSymbol;
-use records::ProcedureFlags;
 use records::SectionOffset;
 use records::SymbolData;
 use records::ThunkAdjustor;
 use records::ThunkKind;
 use records::ThunkSymbol;
-use records::TrampolineSymbol;
-
-pub fn parse_trampoline(s: &[u8]) -> Decoded
-    ensures { λ r. ⌜ decodedOf r ≡ trampoline (now (s .entry)) 2 ⌝ }
-{
-    if s.len() < 18 {
-        return Decoded::Refused(Refusal::UNEXPECTED_EOF);
-    }
-    let data = TrampolineSymbol {
-        tramp_type: records::trampoline_type(common::u16_at(s, 2)),
-        size: common::u16_at(s, 4),
-        thunk: SectionOffset {
-            offset: common::u32_at(s, 6),
-            section: common::u16_at(s, 14),
-        },
-        target: SectionOffset {
-            offset: common::u32_at(s, 10),
-            section: common::u16_at(s, 16),
-        },
-    };
-    Decoded::Record(SymbolData::Trampoline(data), 18)
-}
-
-pub fn parse_label(s: &[u8], kind: u16) -> Decoded
-    ensures { λ r. ⌜ decodedOf r ≡ label kind (now (s .entry)) 2 ⌝ }
-{
-    if s.len() < 9 {
-        return Decoded::Refused(Refusal::UNEXPECTED_EOF);
-    }
-    match names::parse_symbol_name(s, 9, kind) {
-        ParsedPart::Value(name, next) => {
-            let data = LabelSymbol {
-                offset: SectionOffset {
-                    offset: common::u32_at(s, 2),
-                    section: common::u16_at(s, 6),
-                },
-                flags: ProcedureFlags::from_bits(common::u8_at(s, 8)),
-                name,
-            };
-            return Decoded::Record(SymbolData::Label(data), next);
-        }
-        ParsedPart::Refused(e) => return Decoded::Refused(e),
-    }
-}
 
 // What reading the data of a thunk's variant answers: the variant and the position after it, or the refusal.
 pub enum ParsedThunkKind {

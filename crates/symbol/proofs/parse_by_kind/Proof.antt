@@ -2,6 +2,7 @@
 -- Assumes nothing.
 use borrow.Author.Needs.{needs}
 use mathlib.Core.Path.{_∙_}
+use mathlib.Core.List.{[]}
 use Rattle.symbol.specs.Decode.{layout}
 use Rattle.symbol.proofs.Decoding.{chosen}
 use Rattle.symbol.proofs.parse_by_kind.Statement.{statement}
@@ -17,7 +18,8 @@ parse-by-kind-spec =
     (λ c κs. search needs)
     (λ c. c .unimplemented .ensures ∙ chosen _ _ (c .before .before .before .class-of .ensures) (c .before .enum-told .given .1))
     (λ c. search needs)
-    (λ c. chosen _ _ (c .before .before .class-of .ensures) (c .enum-told2 .given .1))
+    (λ c κs. search needs)
+    (λ c. c .parse-scope-end .ensures [] ∙ chosen _ _ (c .before .before .before .class-of .ensures) (c .before .enum-told2 .given .1))
     (λ c. search needs)
     (λ c κs. search needs)
     (λ c. c .parse-obj-name .ensures ∙ chosen _ _ (c .before .before .before .class-of .ensures) (c .before .enum-told3 .given .1))
@@ -76,9 +78,11 @@ parse-by-kind-spec =
     (λ c κs. search needs)
     (λ c. c .parse-inline-site .ensures ∙ chosen _ _ (c .before .before .before .class-of .ensures) (c .before .enum-told21 .given .1))
     (λ c. search needs)
-    (λ c. chosen _ _ (c .before .before .class-of .ensures) (c .enum-told22 .given .1))
+    (λ c κs. search needs)
+    (λ c. c .parse-inline-site-end .ensures [] ∙ chosen _ _ (c .before .before .before .class-of .ensures) (c .before .enum-told22 .given .1))
     (λ c. search needs)
-    (λ c. chosen _ _ (c .before .before .class-of .ensures) (c .enum-told23 .given .1))
+    (λ c κs. search needs)
+    (λ c. c .parse-procedure-end .ensures [] ∙ chosen _ _ (c .before .before .before .class-of .ensures) (c .before .enum-told23 .given .1))
     (λ c. search needs)
     (λ c κs. search needs)
     (λ c. c .parse-label .ensures ∙ chosen _ _ (c .before .before .before .class-of .ensures) (c .before .enum-told24 .given .1))

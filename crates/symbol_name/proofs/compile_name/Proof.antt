@@ -3,7 +3,7 @@
 use borrow.Author.Needs.{needs}
 use borrow.Author.Tests.{eq-eqb, ne-eqb}
 use mathlib.Core.Path.{_∙_}
-use Rattle.modules.specs.Module.{compile}
+use Rattle.compile_flags.specs.Compile.{compile}
 use Rattle.symbol_name.proofs.Classes.{compile2-name, compile3-name}
 use Rattle.symbol_name.proofs.compile_name.Statement.{statement}
 use Rattle.symbol_name.proofs.compile_name.Tie as tie
