@@ -7,11 +7,11 @@ ghost use mathlib.Core.Path.{_≡_};
 ghost use Rattle.records.specs.Answer.{decodedOf};
 ghost use Rattle.blocks.specs.Block.{block, separatedCode};
 use common::Refusal;
+use flags::SeparatedCodeFlags;
 use names::ParsedPart;
 use records::BlockSymbol;
 use records::Decoded;
 use records::SectionOffset;
-use records::SeparatedCodeFlags;
 use records::SeparatedCodeSymbol;
 use records::SymbolData;
 

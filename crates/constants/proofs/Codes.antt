@@ -10,7 +10,7 @@ use native.Mathlib.Decide.{decLt}
 use borrow.Author.Tests.{ltb-true, ltb-false, leb-false}
 use lib.Dec.{ltb, leb, eqb, lit<}
 use lib.ListN.{getD, replicate, List·getD-map}
-use Rattle.constants.specs.Kind.{Entry, kind, kinds, number, class, role, find, classOf, classNumber, roleOf, opens, closes, startsScope, endsScope}
+use Rattle.constants.specs.Kind.{Entry, kind, kinds, number, class, role, find, classOf, classNumber, roleOf}
 use Rattle.constants.specs.Table.{code, codeOf, packed, rowOf}
 use Rattle.constants.specs.Processor.{among}
 use Rattle.constants.specs.declared.Class.{Class}
@@ -175,11 +175,3 @@ role-there k = agree (λ e. getD roles (code e % 4) Neither) role k kinds refl r
 -- the arm for a role
 pub role-at : (i k : ℕ) → codeOf k % 4 ≡ i → getD roles i Neither ≡ roleOf k
 role-at i k h = ap (λ (x : ℕ). getD roles x Neither) (sym h) ∙ role-there k
-
-pub opens-there : (k : ℕ) → eqb (codeOf k % 4) 1 ≡ startsScope k
-unfolding codeOf startsScope roleOf kinds
-opens-there k = agree (λ e. eqb (code e % 4) 1) (λ e. opens (role e)) k kinds refl refl
-
-pub closes-there : (k : ℕ) → eqb (codeOf k % 4) 2 ≡ endsScope k
-unfolding codeOf endsScope roleOf kinds
-closes-there k = agree (λ e. eqb (code e % 4) 2) (λ e. closes (role e)) k kinds refl refl

@@ -8,7 +8,7 @@ use table::CPU_TYPES;
 use table::OPENS;
 use table::code_of;
 ghost use mathlib.Core.Path.{_≡_};
-ghost use Rattle.constants.specs.Kind.{classOf, roleOf, startsScope, endsScope, nestingRole, isFiller, classNumber};
+ghost use Rattle.constants.specs.Kind.{classOf, roleOf, isFiller, classNumber};
 ghost use Rattle.constants.specs.Processor.{cpuType};
 ghost use Rattle.constants.specs.Language.{sourceLanguage};
 
@@ -149,25 +149,6 @@ pub fn role_of(kind: u16) -> Role
         CLOSES => Role::Closes,
         _ => Role::Neither,
     }
-}
-
-pub fn starts_scope(kind: u16) -> bool
-    ensures { λ r. ⌜ r ≡ startsScope kind ⌝ }
-{
-    code_of(kind) % 4 == OPENS
-}
-
-pub fn ends_scope(kind: u16) -> bool
-    ensures { λ r. ⌜ r ≡ endsScope kind ⌝ }
-{
-    code_of(kind) % 4 == CLOSES
-}
-
-// What the nesting check and the finders take a record for.
-pub fn nesting_role(kind: u16) -> Role
-    ensures { λ r. ⌜ r ≡ nestingRole kind ⌝ }
-{
-    role_of(kind)
 }
 
 // Whether a step passes over records of this kind.

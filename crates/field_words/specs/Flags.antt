@@ -2,12 +2,12 @@
 use Prim.Native.Nat.{ℕ, _+_, _*_}
 use mathlib.Core.List.{List, [], _∷_}
 use mathlib.Core.Bool.{Bool}
-use Rattle.records.specs.declared.PublicFlags.{PublicFlags}
-use Rattle.records.specs.declared.ProcedureFlags.{ProcedureFlags}
-use Rattle.records.specs.declared.CompileFlags.{CompileFlags}
-use Rattle.records.specs.declared.ExportSymbolFlags.{ExportSymbolFlags}
-use Rattle.records.specs.declared.LocalVariableFlags.{LocalVariableFlags}
-use Rattle.records.specs.declared.SeparatedCodeFlags.{SeparatedCodeFlags}
+use Rattle.flags.specs.declared.PublicFlags.{PublicFlags}
+use Rattle.flags.specs.declared.ProcedureFlags.{ProcedureFlags}
+use Rattle.flags.specs.declared.CompileFlags.{CompileFlags}
+use Rattle.flags.specs.declared.ExportSymbolFlags.{ExportSymbolFlags}
+use Rattle.flags.specs.declared.LocalVariableFlags.{LocalVariableFlags}
+use Rattle.flags.specs.declared.SeparatedCodeFlags.{SeparatedCodeFlags}
 use Rattle.field_words.specs.Fields.{truth}
 
 -- a bit for each flag, the lowest first

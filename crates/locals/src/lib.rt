@@ -6,10 +6,10 @@ ghost use mathlib.Core.Path.{_≡_};
 ghost use Rattle.records.specs.Answer.{decodedOf};
 ghost use Rattle.locals.specs.Local.{local, registerRelative};
 use common::Refusal;
+use flags::LocalVariableFlags;
 use names::ParsedPart;
 use records::Decoded;
 use records::LocalSymbol;
-use records::LocalVariableFlags;
 use records::RegisterRelativeSymbol;
 use records::SymbolData;
 

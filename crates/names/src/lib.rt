@@ -51,7 +51,7 @@ pub fn parse_cstring(s: &[u8], at: usize) -> ParsedPart
 }
 
 // The n bytes at a position.
-pub fn take(s: &[u8], at: usize, n: usize) -> ParsedPart
+fn take(s: &[u8], at: usize, n: usize) -> ParsedPart
     ensures { λ r. ⌜ partOf r ≡ bytes n (now (s .entry)) at ⌝ }
 {
     if common::has_room(s, at, n) {

@@ -26,7 +26,7 @@ pub enum ParsedEntry {
     Refused(Refusal),
 }
 
-pub fn parse_entry(s: &[u8], at: usize, kind: u16) -> ParsedEntry
+fn parse_entry(s: &[u8], at: usize, kind: u16) -> ParsedEntry
     ensures { λ r. ⌜ entryOf r ≡ entry kind (now (s .entry)) at ⌝ }
 {
     if !common::has_room(s, at, 2) {

@@ -7,6 +7,7 @@ use common::ParsedU16;
 use common::ParsedU32;
 use common::ParsedU64;
 use common::Refusal;
+use constants::Role;
 use names::ParsedPart;
 use signed::ParsedI16;
 use signed::ParsedI32;
@@ -96,10 +97,11 @@ fn numeric(s: &[u8], at: usize) -> Words {
 
 fn kind(k: u16) -> Words {
     let class = constants::class_number(k) as u64;
-    let opener = words::truth(constants::starts_scope(k));
-    let closer = words::truth(constants::ends_scope(k));
-    let out = [class, opener, closer];
-    words_of(0, &out)
+    match constants::role_of(k) {
+        Role::Neither => words_of(0, &[class, 0, 0]),
+        Role::Opens => words_of(0, &[class, 1, 0]),
+        Role::Closes => words_of(0, &[class, 0, 1]),
+    }
 }
 
 fn code(x: u64) -> Words {

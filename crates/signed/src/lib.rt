@@ -7,7 +7,7 @@ ghost use Rattle.common.specs.Reader.{sint};
 ghost use Rattle.signed.specs.Answer.{i16Of, i32Of, i64Of};
 use common::Refusal;
 
-pub fn i16_at(s: &[u8], at: usize) -> i16
+fn i16_at(s: &[u8], at: usize) -> i16
     requires { ⌜ at + 2 ≤ length (now s) ⌝ }
     ensures { λ r. ⌜ r ≡ signed 16 (le 2 (now (s .entry)) at) ⌝ }
 {
@@ -29,7 +29,7 @@ pub fn i32_at(s: &[u8], at: usize) -> i32
     !((0xffff_ffff - x) as i32)
 }
 
-pub fn i64_at(s: &[u8], at: usize) -> i64
+fn i64_at(s: &[u8], at: usize) -> i64
     requires { ⌜ at + 8 ≤ length (now s) ⌝ }
     ensures { λ r. ⌜ r ≡ signed 64 (le 8 (now (s .entry)) at) ⌝ }
 {

@@ -8,7 +8,7 @@ use Rattle.names.specs.Name.{symbolName}
 use Rattle.names.specs.Answer.{partOf}
 use Rattle.common.specs.Reader.{value}
 use Rattle.records.specs.Field.{indexOf, place}
-use Rattle.records.specs.Flags.{procedureFlags}
+use Rattle.flags.specs.Flags.{procedureFlags}
 use Rattle.records.specs.declared.SymbolData.the-variants.{Procedure}
 use Rattle.procedures.specs.Procedure.{procedureOf, globalProcedure, dpcProcedure}
 use Rattle.procedures.proofs.Rows.{procedureRow, procedure-row}

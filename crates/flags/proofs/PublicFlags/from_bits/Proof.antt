@@ -1,0 +1,20 @@
+-- `flags::PublicFlags::from_bits` meets its contract.
+-- Assumes nothing.
+use Rattle.flags.specs.Flags.{publicFlags}
+use Rattle.flags.proofs.Bits.{masked}
+use Rattle.flags.proofs.PublicFlags.from_bits.Statement.{statement}
+use Rattle.flags.proofs.PublicFlags.from_bits.Tie as tie
+
+returns : tie.Need-returns
+unfolding publicFlags
+returns c =
+    let x = c .args .x in
+    λ i. record {
+      code = masked 0 x i;
+      function = masked 1 x i;
+      managed = masked 2 x i;
+      msil = masked 3 x i;
+    }
+
+pub from-bits-spec : {M : Type 1} → statement M
+from-bits-spec = tie.close (tie.spec returns)
