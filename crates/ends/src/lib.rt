@@ -7,19 +7,19 @@ ghost use Rattle.ends.specs.End.{scopeEnd, inlineSiteEnd, procedureEnd};
 use records::Decoded;
 use records::SymbolData;
 
-pub fn parse_scope_end() -> Decoded
+pub fn scope_end() -> Decoded
     ensures { λ r. ⌜ ((s : List ℕ) → decodedOf r ≡ scopeEnd s 2) ⌝ }
 {
     Decoded::Record(SymbolData::ScopeEnd, 2)
 }
 
-pub fn parse_inline_site_end() -> Decoded
+pub fn inline_site_end() -> Decoded
     ensures { λ r. ⌜ ((s : List ℕ) → decodedOf r ≡ inlineSiteEnd s 2) ⌝ }
 {
     Decoded::Record(SymbolData::InlineSiteEnd, 2)
 }
 
-pub fn parse_procedure_end() -> Decoded
+pub fn procedure_end() -> Decoded
     ensures { λ r. ⌜ ((s : List ℕ) → decodedOf r ≡ procedureEnd s 2) ⌝ }
 {
     Decoded::Record(SymbolData::ProcedureEnd, 2)

@@ -7,7 +7,6 @@ use common::ParsedU16;
 use common::ParsedU32;
 use common::ParsedU64;
 use common::Refusal;
-use constants::Role;
 use names::ParsedPart;
 use signed::ParsedI16;
 use signed::ParsedI32;
@@ -96,12 +95,12 @@ fn numeric(s: &[u8], at: usize) -> Words {
 }
 
 fn kind(k: u16) -> Words {
+    let rec = [(k % 256) as u8, (k / 256) as u8];
     let class = constants::class_number(k) as u64;
-    match constants::role_of(k) {
-        Role::Neither => words_of(0, &[class, 0, 0]),
-        Role::Opens => words_of(0, &[class, 1, 0]),
-        Role::Closes => words_of(0, &[class, 0, 1]),
-    }
+    let opener = words::truth(kind::starts_scope(&rec));
+    let closer = words::truth(kind::ends_scope(&rec));
+    let out = [class, opener, closer];
+    words_of(0, &out)
 }
 
 fn code(x: u64) -> Words {

@@ -27,7 +27,7 @@ fn parse_by_kind(s: &[u8], kind: u16) -> Decoded
 {
     match constants::class_of(kind) {
         Class::Unknown => return unimplemented(kind),
-        Class::ScopeEnd => return ends::parse_scope_end(),
+        Class::ScopeEnd => return ends::scope_end(),
         Class::ObjName => return modules::parse_obj_name(s, kind),
         Class::RegisterVariable => return variables::parse_register_variable(s, kind),
         Class::Constant => return variables::parse_constant(s, kind),
@@ -47,8 +47,8 @@ fn parse_by_kind(s: &[u8], kind: u16) -> Decoded
         Class::Local => return locals::parse_local(s, kind),
         Class::BuildInfo => return modules::parse_build_info(s),
         Class::InlineSite => return inline_sites::parse_inline_site(s, kind),
-        Class::InlineSiteEnd => return ends::parse_inline_site_end(),
-        Class::ProcedureEnd => return ends::parse_procedure_end(),
+        Class::InlineSiteEnd => return ends::inline_site_end(),
+        Class::ProcedureEnd => return ends::procedure_end(),
         Class::Label => return procedures::parse_label(s, kind),
         Class::Block => return blocks::parse_block(s, kind),
         Class::RegisterRelative => return locals::parse_register_relative(s, kind),
