@@ -23,8 +23,8 @@ use Rattle.walk.proofs.Walks.{walkAt}
 use Rattle.jump.specs.Jump.{jumpFrom, jumpOf}
 use Rattle.climb.specs.Climb.{reachedBy, climbOf}
 use Rattle.climb.specs.declared.Opener.the-variants.{Parent}
-use Rattle.check_nesting.specs.Check.{Open, innerIndex}
-use Rattle.agreement.specs.Agreement.{Some, Begins, OpenerBegins, reversed, BothAnswer, ClimbsThem, Agreement, Condition3, answersOf}
+use Rattle.check_nesting.specs.Check.{Open}
+use Rattle.agreement.specs.Agreement.{Some, Begins, OpenerBegins, BothAnswer, ClimbsThem, Agreement, Condition3, answersOf}
 use Rattle.agreement.proofs.Nest.{bytesAt, openAt, Nest, done, passes, opens, closes, check-nests}
 use Rattle.agreement.proofs.Turns.{same-out, same-stack, walk-end, walk-same, walk-past, walk-plain, walk-open, walk-close}
 use Rattle.agreement.proofs.Skip.{idxs, idxs-length}

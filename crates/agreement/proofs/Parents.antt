@@ -15,13 +15,10 @@ use Rattle.iter.specs.declared.Next.the-variants as N
 use Rattle.iter.specs.declared.Scan.{Scan}
 use Rattle.iter.proofs.Records.{again}
 use Rattle.chain.specs.Chain.{chainOf}
-use Rattle.chain.specs.declared.Chain.{Chain}
 use Rattle.kind.specs.Raw.{nestingRoleOf}
 use Rattle.links.specs.Links.{linksOf}
 use Rattle.links.specs.declared.Links.the-variants.{Read}
 use Rattle.check_nesting.specs.Check.{Open, innerIndex}
-use Rattle.climb.specs.declared.Ascent.{Ascent}
-use Rattle.climb.specs.declared.Opener.{Opener}
 use Rattle.climb.specs.declared.Opener.the-variants.{Parent}
 use Rattle.climb.specs.Climb.{reachedBy, openerOn, openerOf, climbBy, climbOn, climbOf}
 use Rattle.climb.proofs.Climbs.{climb-top, climb-below}

@@ -6,7 +6,7 @@ use mathlib.Core.Bool.{cond}
 use Prim.Native.Nat.{ℕ, zero, suc, _-_, _≤_, _<_}
 use native.Mathlib.Omega.{arith}
 use lib.ListN.{length, take, drop}
-use lib.Dec.{leb, eqb}
+use lib.Dec.{eqb}
 use borrow.Author.Tests.{le-leb, lt-leb, eq-eqb, ne-eqb}
 use Rattle.common.specs.declared.Refusal.{Refusal}
 use Rattle.iter.specs.Step.{scanOf, stepOf}
@@ -17,7 +17,6 @@ use Rattle.kind.specs.Raw.{nestingRoleOf}
 use Rattle.chain.specs.Chain.{chainOf}
 use Rattle.chain.specs.declared.Chain.{Chain}
 use Rattle.chain.proofs.Laws.{pushed, push-stack}
-use Rattle.climb.specs.declared.Ascent.{Ascent}
 use Rattle.climb.specs.declared.Opener.{Opener}
 use Rattle.climb.specs.declared.Opener.the-variants as O
 use Rattle.climb.specs.Climb.{reachedBy, halts, openerRefused, openerIn, openerOn, openerOf, onParent, climbOn}

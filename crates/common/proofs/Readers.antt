@@ -8,7 +8,7 @@ use borrow.Author.Tests.{leb-true, leb-false}
 use lib.ListN.{length}
 use lib.Dec.{leb}
 use Rattle.common.specs.Bytes.{le}
-use Rattle.common.specs.Reader.{Read, value, refused, Reader, runsOut, next, _>>=_, uint}
+use Rattle.common.specs.Reader.{value, refused, Reader, runsOut, next, _>>=_, uint}
 use Rattle.common.specs.declared.Refusal.{Refusal}
 
 -- what a test of room says of the numbers

@@ -11,7 +11,7 @@ use borrow.Author.Tests.{le-leb, leb-true}
 use lib.ListN.{length}
 use lib.Dec.{leb}
 use Rattle.common.specs.Bytes.{le}
-use Rattle.common.specs.Reader.{Read, value, refused, runsOut, Reader, done, _>>=_, uint}
+use Rattle.common.specs.Reader.{value, refused, runsOut, Reader, done, _>>=_, uint}
 use Rattle.common.specs.declared.Refusal.{Refusal}
 use Rattle.common.proofs.Readers.{uint-value, uint-short, then-value, then-refused}
 

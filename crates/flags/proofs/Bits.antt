@@ -1,9 +1,9 @@
 -- A test of a mask of one bit says whether the bit is set.
 -- Assumes nothing.
 use Prim.Native.Nat.{ℕ, zero, suc, _+_, _-_, _*_, _/_, _%_, _^_, _<_}
-use mathlib.Core.Path.{_≡_, refl, ap, _∙_, sym}
-use mathlib.Core.Bool.{Bool, not}
-use native.Mathlib.Nat.{zero-mul, one-mul, mod-lt}
+use mathlib.Core.Path.{_≡_}
+use mathlib.Core.Bool.{not}
+use native.Mathlib.Nat.{zero-mul, one-mul}
 use native.Mathlib.Omega.{arith}
 use borrow.Author.Tests.{ne-eqb}
 use lib.Dec.{eqb}

@@ -4,7 +4,7 @@ use Prim.Native.Nat.{ℕ, _-_}
 use mathlib.Core.Path.{_≡_, refl}
 use mathlib.Core.List.{List, [], _∷_}
 use lib.ListN.{length}
-use Rattle.common.specs.Reader.{value, _>>=_}
+use Rattle.common.specs.Reader.{value}
 use Rattle.common.proofs.Rows.{tailed}
 use Rattle.inline_sites.specs.Inline.{rest, plainSite, plainSiteOf, countedSite, countedSiteOf}
 

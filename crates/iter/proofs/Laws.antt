@@ -8,12 +8,12 @@ use native.Mathlib.Omega.{arith}
 use native.Mathlib.Nat.{zero-add, add-zero}
 use lib.ListN.{length}
 use lib.Dec.{ltb, leb}
-use borrow.Author.Tests.{leb-false, leb-true, ltb-false, ltb-true, le-ltb, lt-ltb}
+use borrow.Author.Tests.{leb-false, ltb-false, le-ltb, lt-ltb}
 use Rattle.common.specs.Bytes.{le}
 use Rattle.common.specs.Reader.{refusal}
 use Rattle.common.specs.declared.Refusal.{Refusal}
 use Rattle.constants.specs.Kind.{isFiller}
-use Rattle.iter.specs.Step.{frameAt, plain, passOver, onKind, onFrame, scanFrom, within, scanOf}
+use Rattle.iter.specs.Step.{frameAt, plain, onKind, onFrame, scanFrom, within, scanOf}
 use Rattle.iter.specs.declared.Frame.{Frame}
 use Rattle.iter.specs.declared.Frame.the-variants as F
 use Rattle.iter.specs.declared.Scan.{Scan}

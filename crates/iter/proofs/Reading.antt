@@ -1,20 +1,19 @@
 -- Laws of `stepOf` that callers use, and of `readOf`: no fuel is left in them.
 -- Assumes nothing.
 use mathlib.Core.Path.{_≡_, refl, sym, _∙_, ap}
-use mathlib.Core.List.{List, [], _∷_}
+use mathlib.Core.List.{List}
 use mathlib.Core.Bool.{Bool, true, false, cond}
 use Prim.Native.Nat.{ℕ, zero, suc, _+_, _-_, _≤_, _<_}
 use native.Mathlib.Omega.{arith}
 use native.Mathlib.Nat.{add-zero}
 use lib.ListN.{length}
 use lib.Dec.{ltb, leb}
-use borrow.Author.Tests.{leb-false, leb-true, ltb-false, ltb-true, le-ltb, lt-ltb}
+use borrow.Author.Tests.{leb-true, ltb-false, ltb-true}
 use Rattle.common.specs.Bytes.{le}
 use Rattle.common.specs.Reader.{refusal}
-use Rattle.common.specs.declared.Refusal.{Refusal}
 use Rattle.constants.specs.Kind.{isFiller}
-use Rattle.iter.specs.Step.{frameAt, plain, passOver, onKind, onFrame, scanFrom, within, scanOf}
-use Rattle.iter.specs.Reading.{Rec, Reading, recAt, ended, more, onNext, readFrom, readOf}
+use Rattle.iter.specs.Step.{frameAt, plain, onKind, onFrame, scanFrom, within, scanOf}
+use Rattle.iter.specs.Reading.{recAt, ended, more, onNext, readFrom, readOf}
 use Rattle.iter.specs.declared.Frame.{Frame}
 use Rattle.iter.specs.declared.Frame.the-variants as F
 use Rattle.iter.specs.declared.Scan.{Scan}

@@ -7,15 +7,14 @@ use Prim.Native.Nat.{ℕ, zero, suc, _+_, _-_, _≤_, _<_}
 use native.Mathlib.Omega.{arith}
 use lib.ListN.{length, take, drop, length-take, length-drop}
 use lib.Dec.{ltb}
-use borrow.Author.Tests.{ltb-true, ltb-false, lt-ltb, le-ltb}
+use borrow.Author.Tests.{ltb-false, lt-ltb, le-ltb}
 use Rattle.common.specs.Reader.{refusal}
 use Rattle.common.specs.declared.Refusal.{Refusal}
 use Rattle.constants.specs.Kind.{isFiller}
 use Rattle.iter.specs.Step.{frameAt, plain, onKind, onFrame, scanFrom, within, scanOf}
-use Rattle.iter.specs.Reading.{Rec, Reading, recAt, ended, more, onNext, readOf}
+use Rattle.iter.specs.Reading.{Rec, Reading, recAt, ended, more, readOf}
 use Rattle.iter.specs.declared.Frame.{Frame}
 use Rattle.iter.specs.declared.Frame.the-variants as F
-use Rattle.iter.specs.declared.Scan.{Scan}
 use Rattle.iter.specs.declared.Next.{Next}
 use Rattle.iter.specs.declared.Next.the-variants.{End, Refused, Record}
 use Rattle.iter.proofs.Reading.{Stepped, step-fits, read-by, Skips, skips, end-is}

@@ -4,7 +4,7 @@ use Prim.Native.Nat.{ℕ, _+_, _≤_, _<_}
 use mathlib.Core.Path.{_≡_, refl, _∙_}
 use mathlib.Core.List.{List, [], _∷_}
 use lib.ListN.{length}
-use Rattle.common.specs.Reader.{value, refused, runsOut, Reader, _>>=_}
+use Rattle.common.specs.Reader.{value, refused, runsOut, Reader}
 use Rattle.common.specs.declared.Refusal.{Refusal}
 use Rattle.common.proofs.Rows.{filled, tailed, tailed-value, tailed-refused, tailed-short}
 use Rattle.records.specs.declared.SymbolData.{SymbolData}

@@ -10,7 +10,7 @@ use borrow.Author.Tests.{not-true, not-false}
 use lib.ListN.{length}
 use lib.Dec.{leb}
 use Rattle.common.specs.Bytes.{le}
-use Rattle.common.specs.Reader.{Read, value, refused, runsOut, _>>=_}
+use Rattle.common.specs.Reader.{Read, value, refused, runsOut}
 use Rattle.common.specs.declared.Refusal.{Refusal}
 use Rattle.common.proofs.Readers.{room, no-room, then-value, then-refused}
 use Rattle.common.proofs.Rows.{tailed, tailed-value, tailed-refused, tailed-short}

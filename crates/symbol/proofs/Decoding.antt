@@ -6,11 +6,10 @@ use mathlib.Core.List.{List}
 use borrow.Author.Tests.{lt-ltb, le-ltb, le-leb, lt-leb}
 use lib.ListN.{length}
 use Rattle.common.specs.Bytes.{le}
-use Rattle.common.specs.Reader.{Read, refused, refusal, runsOut, uint}
+use Rattle.common.specs.Reader.{refused, refusal, runsOut, uint}
 use Rattle.common.proofs.Readers.{uint-value, uint-short, then-value, then-refused}
 use Rattle.constants.specs.Kind.{classOf}
 use Rattle.constants.specs.declared.Class.{Class}
-use Rattle.records.specs.declared.SymbolData.{SymbolData}
 use Rattle.symbol.specs.Decode.{layout, byKind, decode}
 
 -- the layout of a kind whose class is c

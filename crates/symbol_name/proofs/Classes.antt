@@ -31,7 +31,7 @@ use Rattle.blocks.proofs.Rows.{block-row, separated-row}
 use Rattle.inline_sites.specs.Inline.{countedSite, countedSiteOf, plainSite, plainSiteOf, rest}
 use Rattle.inline_sites.proofs.Rows.{counted-row, plain-row}
 use Rattle.symbol_name.specs.Name.{namedBy}
-use Rattle.symbol_name.specs.Behind.{answered, behind, namedBehind, unnamedBehind, optionalBehind, nothingBehind, entriesBehind}
+use Rattle.symbol_name.specs.Behind.{answered, namedBehind, unnamedBehind, optionalBehind, nothingBehind, entriesBehind}
 use Rattle.symbol_name.proofs.Rows.{row-name, row-no-name, room-of-name}
 
 pub obj-name-name : (kind : ℕ) (s : List ℕ) → namedBehind 6 kind s ≡ namedBy (objName kind s 2)

@@ -5,12 +5,11 @@ use mathlib.Core.Path.{_≡_, refl, ap, _∙_, sym}
 use mathlib.Core.List.{List, [], _∷_}
 use mathlib.Core.Bool.{Bool, true, false, cond}
 use native.Mathlib.Omega.{arith}
-use borrow.Author.Tests.{ltb-true, ltb-false, lt-ltb}
+use borrow.Author.Tests.{ltb-true, ltb-false}
 use lib.ListN.{length}
 use lib.Dec.{ltb}
 use Rattle.common.specs.Bytes.{le}
 use Rattle.common.specs.Reader.{Read, value, refused, runsOut, Reader}
-use Rattle.common.specs.declared.Refusal.{Refusal}
 use Rattle.common.proofs.Rows.{Fields, total, filled, tailed, fixed, tailed-value, tailed-refused, tailed-short, fixed-value, fixed-short}
 use Rattle.names.specs.Name.{symbolName, pascal, cstring}
 use Rattle.names.specs.declared.Part.{Part}

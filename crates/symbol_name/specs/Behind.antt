@@ -6,7 +6,6 @@ use lib.ListN.{length}
 use lib.Dec.{ltb}
 use Rattle.common.specs.Reader.{Read, value, refused, runsOut, Reader}
 use Rattle.names.specs.Name.{symbolName}
-use Rattle.names.specs.declared.Part.{Part}
 use Rattle.records.specs.declared.OptionPart.{OptionPart}
 use Rattle.records.specs.declared.OptionPart.the-variants.{None, Some}
 use Rattle.references.specs.Reference.{optionalName}

@@ -2,9 +2,7 @@
 use Prim.Native.Nat.{ℕ}
 use mathlib.Core.List.{List, []}
 use Rattle.common.specs.Reader.{Read, value, refused}
-use Rattle.common.specs.declared.Refusal.{Refusal}
 use Rattle.names.specs.Name.{bytesOf}
-use Rattle.names.specs.declared.Part.{Part}
 use Rattle.records.specs.declared.OptionPart.{OptionPart}
 use Rattle.records.specs.declared.OptionPart.the-variants.{None, Some}
 use Rattle.records.specs.declared.SymbolData.{SymbolData}

@@ -4,7 +4,7 @@ use Prim.Native.Nat.{ℕ, _≤_, _<_}
 use mathlib.Core.Path.{_≡_, _∙_, sym}
 use mathlib.Core.List.{List}
 use borrow.Author.Tests.{lt-ltb, le-ltb, ne-eqb}
-use Rattle.common.specs.Reader.{Read, value, refused, refusal, Reader, done, uint}
+use Rattle.common.specs.Reader.{value, refused, refusal, Reader, done, uint}
 use Rattle.common.specs.declared.Refusal.{Refusal}
 use Rattle.common.proofs.Readers.{then-value, then-refused}
 use Rattle.variant.specs.Numeric.{number, leaf, byPrefix, numeric}

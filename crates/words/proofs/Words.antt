@@ -10,7 +10,7 @@ use lib.IntN.{ℤ, pos, negsuc, natAbs}
 use lib.Signed.{ltZ, nonNeg}
 use mir.Syntax.{w64}
 use mir.Val.{Fits, SFits, toZ, ofZ}
-use mir.Facts.{toZ-ofZ, toZ-pos, toZ-neg}
+use mir.Facts.{toZ-pos, toZ-neg}
 use Rattle.common.specs.Bytes.{signed}
 use Rattle.common.proofs.Laws.{signed-same}
 

@@ -2,7 +2,7 @@
 -- Assumes nothing.
 use borrow.Author.Needs.{needs}
 use mathlib.Core.Path.{_∙_}
-use mathlib.Core.List.{[], _∷_}
+use mathlib.Core.List.{[]}
 use Rattle.common.proofs.Rows.{fixed-value, fixed-short}
 use Rattle.modules.specs.Module.{buildInfoOf}
 use Rattle.modules.proofs.Rows.{buildInfoRow, build-info-row}

@@ -6,8 +6,6 @@ use Rattle.names.specs.Answer.{partOf}
 use Rattle.thunks.specs.Answer.{thunkKindOf}
 use Rattle.thunks.proofs.Rows.{thunk-short, thunk-name-refused, thunk-variant-refused, thunk-value}
 use Rattle.symbol_name.specs.Name.{namedBy}
-use Prim.Native.Nat.{ℕ}
-use Rattle.thunks.specs.Thunk.{thunkKind}
 use Rattle.symbol_name.proofs.thunk_name.Statement.{statement}
 use Rattle.symbol_name.proofs.thunk_name.Tie as tie
 

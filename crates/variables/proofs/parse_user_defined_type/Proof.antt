@@ -2,7 +2,7 @@
 -- Assumes nothing.
 use borrow.Author.Needs.{needs}
 use mathlib.Core.Path.{sym, ap, _∙_}
-use mathlib.Core.List.{[], _∷_}
+use mathlib.Core.List.{[]}
 use Rattle.common.proofs.Rows.{tailed-value, tailed-refused, tailed-short}
 use Rattle.names.specs.Name.{symbolName}
 use Rattle.names.specs.Answer.{partOf}

@@ -4,7 +4,6 @@ use borrow.Author.Needs.{needs}
 use mathlib.Core.Path.{_∙_}
 use mir.Syntax.{w16, w32}
 use mir.Facts.{toZ-ofZ, sfits-widen}
-use mir.Syntax.{w16}
 use Rattle.words.proofs.i16_word.Statement.{statement}
 use Rattle.words.proofs.i16_word.Tie as tie
 

@@ -4,7 +4,6 @@ use borrow.Author.Needs.{needs}
 use mathlib.Core.Path.{_∙_}
 use mir.Syntax.{w32, w64}
 use mir.Facts.{toZ-ofZ, sfits-widen}
-use mir.Syntax.{w32}
 use Rattle.words.proofs.i32_word.Statement.{statement}
 use Rattle.words.proofs.i32_word.Tie as tie
 
