@@ -52,9 +52,9 @@ fn parse_compile2(s: &[u8], kind: u16) -> Decoded
     match names::parse_symbol_name(s, 20, kind) {
         ParsedPart::Value(version_string, next) => {
             let data = CompileFlagsSymbol {
-                language: constants::source_language(common::u8_at(s, 2)),
+                language: compilers::source_language(common::u8_at(s, 2)),
                 flags: CompileFlags::from_bits(common::u16_at(s, 3), false),
-                cpu_type: constants::cpu_type(common::u16_at(s, 6)),
+                cpu_type: compilers::cpu_type(common::u16_at(s, 6)),
                 frontend_version: version_at(s, 8),
                 backend_version: version_at(s, 14),
                 version_string,
@@ -75,9 +75,9 @@ fn parse_compile3(s: &[u8], kind: u16) -> Decoded
     match names::parse_symbol_name(s, 24, kind) {
         ParsedPart::Value(version_string, next) => {
             let data = CompileFlagsSymbol {
-                language: constants::source_language(common::u8_at(s, 2)),
+                language: compilers::source_language(common::u8_at(s, 2)),
                 flags: CompileFlags::from_bits(common::u16_at(s, 3), true),
-                cpu_type: constants::cpu_type(common::u16_at(s, 6)),
+                cpu_type: compilers::cpu_type(common::u16_at(s, 6)),
                 frontend_version: version_with_qfe_at(s, 8),
                 backend_version: version_with_qfe_at(s, 16),
                 version_string,

@@ -12,7 +12,7 @@ use lib.Dec.{ltb, leb, eqb, lit<}
 use lib.ListN.{getD, replicate, List·getD-map}
 use Rattle.constants.specs.Kind.{Entry, kind, kinds, number, class, role, find, classOf, classNumber, roleOf}
 use Rattle.constants.specs.Table.{code, codeOf, packed, rowOf}
-use Rattle.constants.specs.Processor.{among}
+use Rattle.constants.specs.Listed.{among}
 use Rattle.constants.specs.declared.Class.{Class}
 use Rattle.constants.specs.declared.Class.the-variants.{Unknown, ScopeEnd, ObjName, RegisterVariable, Constant, UserDefinedType, MultiRegisterVariable, Data, Public, Procedure, ThreadStorage, CompileFlags, UsingNamespace, ProcedureReference, DataReference, AnnotationReference, Trampoline, Export, Local, BuildInfo, InlineSite, InlineSiteEnd, ProcedureEnd, Label, Block, RegisterRelative, Thunk, SeparatedCode}
 use Rattle.constants.specs.declared.Role.{Role}

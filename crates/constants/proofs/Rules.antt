@@ -8,7 +8,7 @@ use native.Mathlib.Nat.{add-zero, add-suc, suc-add, le-of-suc-le-suc, not-suc-le
 use native.Mathlib.Omega.{arith}
 use borrow.Author.Tests.{ne-eqb}
 use lib.ListN.{getD, replicate}
-use Rattle.constants.specs.Processor.{among}
+use Rattle.constants.specs.Listed.{among}
 
 -- the values of f at the n numbers from i on
 abbrev pub tabulate : (ℕ → ℕ) → ℕ → ℕ → List ℕ

@@ -1,4 +1,3 @@
+pub mod Listed
 pub mod Kind
 pub mod Table
-pub mod Processor
-pub mod Language

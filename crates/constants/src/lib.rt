@@ -1,16 +1,13 @@
-// What is known of a record by its kind alone, and of a processor and a language by its code (pdb's src/symbol/constants.rs).
+// What is known of a record by its kind alone (pdb's src/symbol/constants.rs).
 //
 // A kind has a class, the record that it is decoded as, and a role, its part in a scope. Both lie packed in one byte of a table.
 mod table;
 
 use table::CLOSES;
-use table::CPU_TYPES;
 use table::OPENS;
 use table::code_of;
 ghost use mathlib.Core.Path.{_≡_};
 ghost use Rattle.constants.specs.Kind.{classOf, roleOf, isFiller, classNumber};
-ghost use Rattle.constants.specs.Processor.{cpuType};
-ghost use Rattle.constants.specs.Language.{sourceLanguage};
 
 // The kinds by which records of one class, or of none, are told apart, as cvinfo.h names them.
 pub const S_ALIGN: u16 = 0x0402; // used for page alignment
@@ -156,31 +153,4 @@ pub fn is_filler(kind: u16) -> bool
     ensures { λ r. ⌜ r ≡ isFiller kind ⌝ }
 {
     (kind == S_ALIGN) | (kind == S_SKIP)
-}
-
-// What an unknown processor and an unknown language read as.
-const INTEL8080: u16 = 0;
-
-const MASM: u8 = 3;
-
-// A known processor's code, and that of Intel8080 for another.
-pub fn cpu_type(code: u16) -> u16
-    ensures { λ r. ⌜ r ≡ cpuType code ⌝ }
-{
-    if code < 257 {
-        CPU_TYPES[code as usize]
-    } else {
-        INTEL8080
-    }
-}
-
-// A known language's code, and that of Masm for another.
-pub fn source_language(code: u8) -> u8
-    ensures { λ r. ⌜ r ≡ sourceLanguage code ⌝ }
-{
-    if (code <= 0x10) | (code == 0x44) {
-        code
-    } else {
-        MASM
-    }
 }

@@ -2,15 +2,15 @@
 use crate::told::FREE;
 use crate::told::Words;
 use crate::told::words_of;
-use common::ParsedU8;
-use common::ParsedU16;
-use common::ParsedU32;
-use common::ParsedU64;
 use common::Refusal;
 use names::ParsedPart;
 use signed::ParsedI16;
 use signed::ParsedI32;
 use signed::ParsedI64;
+use unsigned::ParsedU8;
+use unsigned::ParsedU16;
+use unsigned::ParsedU32;
+use unsigned::ParsedU64;
 use variant::ParsedVariant;
 use variant::Variant;
 
@@ -27,19 +27,19 @@ fn value(x: u64, next: usize) -> Words {
 
 fn unsigned(op: u64, s: &[u8], at: usize) -> Words {
     match op {
-        1 => match common::parse_u8(s, at) {
+        1 => match unsigned::parse_u8(s, at) {
             ParsedU8::Value(x, next) => value(x as u64, next),
             ParsedU8::Refused(e) => refused(e),
         },
-        2 => match common::parse_u16(s, at) {
+        2 => match unsigned::parse_u16(s, at) {
             ParsedU16::Value(x, next) => value(x as u64, next),
             ParsedU16::Refused(e) => refused(e),
         },
-        3 => match common::parse_u32(s, at) {
+        3 => match unsigned::parse_u32(s, at) {
             ParsedU32::Value(x, next) => value(x as u64, next),
             ParsedU32::Refused(e) => refused(e),
         },
-        _ => match common::parse_u64(s, at) {
+        _ => match unsigned::parse_u64(s, at) {
             ParsedU64::Value(x, next) => value(x, next),
             ParsedU64::Refused(e) => refused(e),
         },
@@ -180,8 +180,8 @@ pub fn answer(op: u64, arg: u64, start: u64, s: &[u8]) -> Words {
         9 => name(names::parse_u8_pascal_string(s, at)),
         10 => numeric(s, at),
         16 => kind((arg % 0x10000) as u16),
-        17 => code(constants::cpu_type((arg % 0x10000) as u16) as u64),
-        18 => code(constants::source_language((arg % 0x100) as u8) as u64),
+        17 => code(compilers::cpu_type((arg % 0x10000) as u16) as u64),
+        18 => code(compilers::source_language((arg % 0x100) as u8) as u64),
         32 => step(s, at),
         33 => decode(s),
         34..=36 => about_record(op, s, at),

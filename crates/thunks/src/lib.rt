@@ -7,7 +7,6 @@ ghost use mathlib.Core.Path.{_≡_};
 ghost use Rattle.records.specs.Answer.{decodedOf};
 ghost use Rattle.thunks.specs.Thunk.{adjustor, thunkKind, thunk};
 ghost use Rattle.thunks.specs.Answer.{thunkKindOf};
-use common::ParsedU16;
 use common::Refusal;
 use names::ParsedPart;
 use records::Decoded;
@@ -16,6 +15,7 @@ use records::SymbolData;
 use records::ThunkAdjustor;
 use records::ThunkKind;
 use records::ThunkSymbol;
+use unsigned::ParsedU16;
 
 // What reading the data of a thunk's variant answers: the variant and the position after it, or the refusal.
 pub enum ParsedThunkKind {
@@ -27,7 +27,7 @@ pub enum ParsedThunkKind {
 fn parse_adjustor(s: &[u8], at: usize) -> ParsedThunkKind
     ensures { λ r. ⌜ thunkKindOf r ≡ adjustor (now (s .entry)) at ⌝ }
 {
-    match common::parse_u16(s, at) {
+    match unsigned::parse_u16(s, at) {
         ParsedU16::Value(delta, next) => match names::parse_cstring(s, next) {
             ParsedPart::Value(target, end) => {
                 let data = ThunkAdjustor { delta, target };
@@ -46,7 +46,7 @@ pub fn parse_thunk_kind(s: &[u8], at: usize, code: u8) -> ParsedThunkKind
     match code {
         0 => ParsedThunkKind::Value(ThunkKind::NoType, at),
         1 => parse_adjustor(s, at),
-        2 => match common::parse_u16(s, at) {
+        2 => match unsigned::parse_u16(s, at) {
             ParsedU16::Value(entry, next) => ParsedThunkKind::Value(ThunkKind::VCall(entry), next),
             ParsedU16::Refused(e) => ParsedThunkKind::Refused(e),
         },

@@ -2,14 +2,14 @@
 ghost use mathlib.Core.Path.{_≡_};
 ghost use Rattle.variant.specs.Numeric.{leaf, numeric};
 ghost use Rattle.variant.specs.Answer.{variantOf};
-use common::ParsedU8;
-use common::ParsedU16;
-use common::ParsedU32;
-use common::ParsedU64;
 use common::Refusal;
 use signed::ParsedI16;
 use signed::ParsedI32;
 use signed::ParsedI64;
+use unsigned::ParsedU8;
+use unsigned::ParsedU16;
+use unsigned::ParsedU32;
+use unsigned::ParsedU64;
 
 pub const LF_NUMERIC: u16 = 0x8000;
 
@@ -48,7 +48,7 @@ fn parse_leaf(s: &[u8], at: usize, prefix: u16) -> ParsedVariant
     ensures { λ r. ⌜ variantOf r ≡ leaf prefix (now (s .entry)) at ⌝ }
 {
     match prefix {
-        LF_CHAR => match common::parse_u8(s, at) {
+        LF_CHAR => match unsigned::parse_u8(s, at) {
             ParsedU8::Value(x, next) => ParsedVariant::Value(Variant::U8(x), next),
             ParsedU8::Refused(e) => ParsedVariant::Refused(e),
         },
@@ -56,7 +56,7 @@ fn parse_leaf(s: &[u8], at: usize, prefix: u16) -> ParsedVariant
             ParsedI16::Value(x, next) => ParsedVariant::Value(Variant::I16(x), next),
             ParsedI16::Refused(e) => ParsedVariant::Refused(e),
         },
-        LF_USHORT => match common::parse_u16(s, at) {
+        LF_USHORT => match unsigned::parse_u16(s, at) {
             ParsedU16::Value(x, next) => ParsedVariant::Value(Variant::U16(x), next),
             ParsedU16::Refused(e) => ParsedVariant::Refused(e),
         },
@@ -64,7 +64,7 @@ fn parse_leaf(s: &[u8], at: usize, prefix: u16) -> ParsedVariant
             ParsedI32::Value(x, next) => ParsedVariant::Value(Variant::I32(x), next),
             ParsedI32::Refused(e) => ParsedVariant::Refused(e),
         },
-        LF_ULONG => match common::parse_u32(s, at) {
+        LF_ULONG => match unsigned::parse_u32(s, at) {
             ParsedU32::Value(x, next) => ParsedVariant::Value(Variant::U32(x), next),
             ParsedU32::Refused(e) => ParsedVariant::Refused(e),
         },
@@ -72,7 +72,7 @@ fn parse_leaf(s: &[u8], at: usize, prefix: u16) -> ParsedVariant
             ParsedI64::Value(x, next) => ParsedVariant::Value(Variant::I64(x), next),
             ParsedI64::Refused(e) => ParsedVariant::Refused(e),
         },
-        LF_UQUADWORD => match common::parse_u64(s, at) {
+        LF_UQUADWORD => match unsigned::parse_u64(s, at) {
             ParsedU64::Value(x, next) => ParsedVariant::Value(Variant::U64(x), next),
             ParsedU64::Refused(e) => ParsedVariant::Refused(e),
         },
@@ -87,7 +87,7 @@ fn parse_leaf(s: &[u8], at: usize, prefix: u16) -> ParsedVariant
 pub fn parse_variant(s: &[u8], at: usize) -> ParsedVariant
     ensures { λ r. ⌜ variantOf r ≡ numeric (now (s .entry)) at ⌝ }
 {
-    match common::parse_u16(s, at) {
+    match unsigned::parse_u16(s, at) {
         ParsedU16::Value(prefix, next) => {
             if prefix < LF_NUMERIC {
                 ParsedVariant::Value(Variant::U16(prefix), next)

@@ -3,7 +3,7 @@
 use borrow.Author.Needs.{needs}
 use mathlib.Core.Path.{sym, ap, _∙_}
 use Rattle.common.specs.Reader.{uint}
-use Rattle.common.specs.Answer.{u16Of}
+use Rattle.unsigned.specs.Answer.{u16Of}
 use Rattle.common.proofs.Readers.{then-value, then-refused}
 use Rattle.names.specs.Name.{cstring}
 use Rattle.names.specs.Answer.{partOf}

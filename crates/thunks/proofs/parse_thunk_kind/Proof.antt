@@ -4,7 +4,7 @@ use borrow.Author.Needs.{needs}
 use mathlib.Core.Path.{sym, ap, _∙_}
 use borrow.Author.Tests.{ne-eqb}
 use Rattle.common.specs.Reader.{uint}
-use Rattle.common.specs.Answer.{u16Of}
+use Rattle.unsigned.specs.Answer.{u16Of}
 use Rattle.common.proofs.Readers.{then-value, then-refused}
 use Rattle.thunks.specs.Thunk.{thunkKind, vcall}
 use Rattle.thunks.proofs.parse_thunk_kind.Statement.{statement}

@@ -5,7 +5,7 @@ use mir.Syntax.{w16, w32, w64}
 use mir.Facts.{toZ-ofZ}
 use mathlib.Core.Path.{refl, sym, ap, _∙_}
 use Rattle.common.specs.Reader.{uint, sint}
-use Rattle.common.specs.Answer.{u8Of, u16Of, u32Of, u64Of}
+use Rattle.unsigned.specs.Answer.{u8Of, u16Of, u32Of, u64Of}
 use Rattle.signed.specs.Answer.{i16Of, i32Of, i64Of}
 use Rattle.variant.specs.Numeric.{leaf}
 use Rattle.variant.specs.declared.Variant.the-variants.{U8, U16, U32, U64, I16, I32, I64}

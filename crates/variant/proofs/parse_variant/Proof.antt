@@ -2,7 +2,7 @@
 -- Assumes nothing.
 use borrow.Author.Needs.{needs}
 use mathlib.Core.Path.{sym, ap, _∙_}
-use Rattle.common.specs.Answer.{u16Of}
+use Rattle.unsigned.specs.Answer.{u16Of}
 use Rattle.variant.proofs.Leaf.{numeric-refused, numeric-small, numeric-leaf}
 use Rattle.variant.proofs.parse_variant.Statement.{statement}
 use Rattle.variant.proofs.parse_variant.Tie as tie
