@@ -1,4 +1,5 @@
--- Processors, as cvinfo.h (CV_CPU_TYPE_e) numbers those that `CPUType` knows.
+-- Processors, as cvinfo.h (CV_CPU_TYPE_e) numbers those that `CPUType` knows. cvinfo.h has ARM64 at 0xf6 and its kin up to 0xf9; pdb has
+-- it at 0x69 alone.
 use Prim.Native.Nat.{ℕ}
 use mathlib.Core.Bool.{cond}
 use mathlib.Core.List.{List, [], _∷_}
