@@ -1,112 +1,7 @@
 // Our answers. Records, streams and their scopes are asked through the functions that C calls.
-use crate::told::FREE;
-use crate::told::Words;
-use crate::told::words_of;
-use common::Refusal;
-use names::ParsedPart;
-use signed::ParsedI16;
-use signed::ParsedI32;
-use signed::ParsedI64;
-use unsigned::ParsedU8;
-use unsigned::ParsedU16;
-use unsigned::ParsedU32;
-use unsigned::ParsedU64;
-use variant::ParsedVariant;
-use variant::Variant;
-
-fn refused(e: Refusal) -> Words {
-    let out = [e.position as u64, e.detail];
-    words_of(e.number as u32, &out)
-}
-
-// A value and the position after it.
-fn value(x: u64, next: usize) -> Words {
-    let out = [x, next as u64];
-    words_of(0, &out)
-}
-
-fn unsigned(op: u64, s: &[u8], at: usize) -> Words {
-    match op {
-        1 => match unsigned::parse_u8(s, at) {
-            ParsedU8::Value(x, next) => value(x as u64, next),
-            ParsedU8::Refused(e) => refused(e),
-        },
-        2 => match unsigned::parse_u16(s, at) {
-            ParsedU16::Value(x, next) => value(x as u64, next),
-            ParsedU16::Refused(e) => refused(e),
-        },
-        3 => match unsigned::parse_u32(s, at) {
-            ParsedU32::Value(x, next) => value(x as u64, next),
-            ParsedU32::Refused(e) => refused(e),
-        },
-        _ => match unsigned::parse_u64(s, at) {
-            ParsedU64::Value(x, next) => value(x, next),
-            ParsedU64::Refused(e) => refused(e),
-        },
-    }
-}
-
-fn signed(op: u64, s: &[u8], at: usize) -> Words {
-    match op {
-        5 => match signed::parse_i16(s, at) {
-            ParsedI16::Value(x, next) => value(words::i16_word(x), next),
-            ParsedI16::Refused(e) => refused(e),
-        },
-        6 => match signed::parse_i32(s, at) {
-            ParsedI32::Value(x, next) => value(words::i32_word(x), next),
-            ParsedI32::Refused(e) => refused(e),
-        },
-        _ => match signed::parse_i64(s, at) {
-            ParsedI64::Value(x, next) => value(words::i64_word(x), next),
-            ParsedI64::Refused(e) => refused(e),
-        },
-    }
-}
-
-fn name(answered: ParsedPart) -> Words {
-    match answered {
-        ParsedPart::Value(p, next) => {
-            let out = [p.start as u64, p.len as u64, next as u64];
-            words_of(0, &out)
-        }
-        ParsedPart::Refused(e) => refused(e),
-    }
-}
-
-// The variant's place in the Rust's enum, its value, and the position after it.
-fn tagged(tag: u64, x: u64, next: usize) -> Words {
-    let out = [tag, x, next as u64];
-    words_of(0, &out)
-}
-
-fn numeric(s: &[u8], at: usize) -> Words {
-    match variant::parse_variant(s, at) {
-        ParsedVariant::Value(v, next) => match v {
-            Variant::U8(x) => tagged(0, x as u64, next),
-            Variant::U16(x) => tagged(1, x as u64, next),
-            Variant::U32(x) => tagged(2, x as u64, next),
-            Variant::U64(x) => tagged(3, x, next),
-            Variant::I16(x) => tagged(5, words::i16_word(x), next),
-            Variant::I32(x) => tagged(6, words::i32_word(x), next),
-            Variant::I64(x) => tagged(7, words::i64_word(x), next),
-        },
-        ParsedVariant::Refused(e) => refused(e),
-    }
-}
-
-fn kind(k: u16) -> Words {
-    let rec = [(k % 256) as u8, (k / 256) as u8];
-    let class = constants::class_number(k) as u64;
-    let opener = words::truth(kind::starts_scope(&rec));
-    let closer = words::truth(kind::ends_scope(&rec));
-    let out = [class, opener, closer];
-    words_of(0, &out)
-}
-
-fn code(x: u64) -> Words {
-    let out = [x];
-    words_of(0, &out)
-}
+use replay_parts::FREE;
+use replay_parts::Words;
+use replay_parts::words_of;
 
 // The words of a call that was lent so many. (A callee that takes the array knows its length.)
 fn words3(number: u32, out: &[u64; 3]) -> Words {
@@ -169,24 +64,15 @@ fn scopes(op: u64, s: &[u8], start: usize, i: usize) -> Words {
     words66(number, &out)
 }
 
-// An operation that we do not have is answered by a number that no refusal has.
 pub fn answer(op: u64, arg: u64, start: u64, s: &[u8]) -> Words {
     let at = arg as usize;
     let from = start as usize;
     match op {
-        1..=4 => unsigned(op, s, at),
-        5..=7 => signed(op, s, at),
-        8 => name(names::parse_cstring(s, at)),
-        9 => name(names::parse_u8_pascal_string(s, at)),
-        10 => numeric(s, at),
-        16 => kind((arg % 0x10000) as u16),
-        17 => code(compilers::cpu_type((arg % 0x10000) as u16) as u64),
-        18 => code(compilers::source_language((arg % 0x100) as u8) as u64),
         32 => step(s, at),
         33 => decode(s),
         34..=36 => about_record(op, s, at),
         40 => check(s, from),
         41..=43 => scopes(op, s, from, at),
-        _ => words_of(u32::MAX, &[0]),
+        _ => replay_parts::answer(op, arg, s),
     }
 }

@@ -6,7 +6,6 @@ ghost use lib.ListN.{length};
 
 mod answer;
 mod list;
-mod told;
 
 use list::Tally;
 

@@ -1,9 +1,9 @@
--- `replay::told::words_of` meets its contract. The measure is the number of places that are left.
+-- `replay_parts::words_of` meets its contract. The measure is the number of places that are left.
 -- Assumes nothing.
 use borrow.Author.Needs.{needs}
 use Prim.Native.Nat.{_-_}
-use Rattle.replay.proofs.told.words_of.Statement.{statement}
-use Rattle.replay.proofs.told.words_of.Tie as tie
+use Rattle.replay_parts.proofs.words_of.Statement.{statement}
+use Rattle.replay_parts.proofs.words_of.Tie as tie
 
 abbrev Inv-loop : tie.InvT-loop
 Inv-loop number out at₀ k₀ at k = Unit {0}
