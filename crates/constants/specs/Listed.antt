@@ -1,4 +1,4 @@
--- Whether a number stands in a list.
+-- Whether a number stands in a list, by which known codes are told from unknown ones.
 use Prim.Native.Nat.{ℕ}
 use mathlib.Core.Bool.{Bool, false, _||_}
 use mathlib.Core.List.{List, [], _∷_}
