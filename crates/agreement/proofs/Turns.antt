@@ -23,11 +23,12 @@ use Rattle.walk.specs.declared.Turn.{Turn}
 use Rattle.walk.specs.declared.Turn.the-variants as T
 use Rattle.walk.specs.Walk.{turnOfRole, turnOf, onTurn}
 use Rattle.walk.proofs.Walks.{walkAt, walk-by}
-use Rattle.jump.specs.declared.Hop.{Hop}
-use Rattle.jump.specs.declared.Hop.the-variants as H
-use Rattle.jump.specs.declared.Land.{Land}
-use Rattle.jump.specs.declared.Land.the-variants as L
-use Rattle.jump.specs.Jump.{openHop, roleHop, hopOf, missed, landRole, landOn, landOf, yieldedAt, onLand, onHop, jumpFrom}
+use Rattle.hop.specs.declared.Hop.{Hop}
+use Rattle.hop.specs.declared.Hop.the-variants as H
+use Rattle.hop.specs.declared.Land.{Land}
+use Rattle.hop.specs.declared.Land.the-variants as L
+use Rattle.hop.specs.Hop.{openHop, roleHop, hopOf, missed, landRole, landOn, landOf}
+use Rattle.jump.specs.Jump.{yieldedAt, onLand, onHop, jumpFrom}
 use Rattle.jump.proofs.Jumps.{jump-by}
 use Rattle.agreement.proofs.Nest.{bytesAt}
 

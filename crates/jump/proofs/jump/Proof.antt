@@ -10,7 +10,8 @@ use Rattle.iter.specs.declared.Next.the-variants.{Record}
 use Rattle.iter.proofs.Reading.{step-fits}
 use Rattle.chain.proofs.Laws.{pushed-is}
 use Rattle.finding.proofs.Goings.{going-first}
-use Rattle.jump.proofs.Jumps.{Jumping, push-room, at-end, at-refused, going-stay, going-push, over, going-over, at-miss, at-found, at-stop}
+use Rattle.hop.proofs.Hops.{push-room}
+use Rattle.jump.proofs.Jumps.{Jumping, at-end, at-refused, going-stay, going-push, over, going-over, at-miss, at-found, at-stop}
 use Rattle.jump.proofs.jump.Statement.{statement}
 use Rattle.jump.proofs.jump.Tie as tie
 

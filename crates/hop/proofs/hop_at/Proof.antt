@@ -1,11 +1,11 @@
--- `jump::hop_at` meets its contract.
+-- `hop::hop_at` meets its contract.
 -- Assumes nothing.
 use borrow.Author.Needs.{needs}
 use mathlib.Core.Path.{sym, _∙_}
 use borrow.Author.Tests.{le-ltb, lt-ltb, eq-eqb, ne-eqb}
-use Rattle.jump.specs.Jump.{hopOf}
-use Rattle.jump.proofs.hop_at.Statement.{statement}
-use Rattle.jump.proofs.hop_at.Tie as tie
+use Rattle.hop.specs.Hop.{hopOf}
+use Rattle.hop.proofs.hop_at.Statement.{statement}
+use Rattle.hop.proofs.hop_at.Tie as tie
 
 returns : tie.Need-returns
 unfolding hopOf

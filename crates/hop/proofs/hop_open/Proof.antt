@@ -1,10 +1,10 @@
--- `jump::hop_open` meets its contract.
+-- `hop::hop_open` meets its contract.
 -- Assumes nothing.
 use borrow.Author.Needs.{needs}
 use mathlib.Core.Path.{sym, _∙_}
 use borrow.Author.Tests.{le-ltb, lt-ltb, le-leb, lt-leb}
-use Rattle.jump.proofs.hop_open.Statement.{statement}
-use Rattle.jump.proofs.hop_open.Tie as tie
+use Rattle.hop.proofs.hop_open.Statement.{statement}
+use Rattle.hop.proofs.hop_open.Tie as tie
 
 links-of-requires : tie.Need-links-of-requires
 links-of-requires c κs = search needs

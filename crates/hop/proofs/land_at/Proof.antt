@@ -1,4 +1,4 @@
--- `jump::land_at` meets its contract.
+-- `hop::land_at` meets its contract.
 -- Assumes nothing.
 use borrow.Author.Needs.{needs}
 use native.Mathlib.Omega.{arith}
@@ -7,10 +7,10 @@ use borrow.Author.Tests.{eq-eqb, ne-eqb}
 use Rattle.iter.specs.Step.{scanOf, stepOf}
 use Rattle.iter.specs.declared.Next.the-variants.{Record}
 use Rattle.iter.proofs.Reading.{step-fits}
-use Rattle.jump.specs.Jump.{landOf}
-use Rattle.jump.proofs.Jumps.{land-record}
-use Rattle.jump.proofs.land_at.Statement.{statement}
-use Rattle.jump.proofs.land_at.Tie as tie
+use Rattle.hop.specs.Hop.{landOf}
+use Rattle.hop.proofs.Hops.{land-record}
+use Rattle.hop.proofs.land_at.Statement.{statement}
+use Rattle.hop.proofs.land_at.Tie as tie
 
 -- the record that the step yielded
 stepped : (c : tie.After-known-told2) →

@@ -1,8 +1,8 @@
--- `jump::astray` meets its contract.
+-- `hop::astray` meets its contract.
 -- Assumes nothing.
 use mathlib.Core.Path.{refl}
-use Rattle.jump.proofs.astray.Statement.{statement}
-use Rattle.jump.proofs.astray.Tie as tie
+use Rattle.hop.proofs.astray.Statement.{statement}
+use Rattle.hop.proofs.astray.Tie as tie
 
 returns : tie.Need-returns
 returns c = refl
