@@ -21,11 +21,12 @@ use Rattle.kind.specs.Raw.{nestingRoleOf}
 use Rattle.links.specs.Links.{linksOf}
 use Rattle.links.specs.declared.Links.{Links}
 use Rattle.links.specs.declared.Links.the-variants.{Unread, Read}
+use Rattle.act.specs.declared.Act.{Act}
+use Rattle.act.specs.declared.Act.the-variants.{Push, Pop, Refused as Stop}
+use Rattle.act.specs.Act.{openOf, actOfRole, actOf}
 use Rattle.check_nesting.specs.declared.Counts.{Counts}
 use Rattle.check_nesting.specs.declared.Checked.the-variants.{Good, Refused as Refuse}
-use Rattle.check_nesting.specs.declared.Act.{Act}
-use Rattle.check_nesting.specs.declared.Act.the-variants.{Push, Pop, Refused as Stop}
-use Rattle.check_nesting.specs.Check.{Open, innerIndex, innerEnd, openOf, actOfRole, actOf, noCounts, onAct, endOf, onLast, checkOn, checkFrom, checkOf}
+use Rattle.check_nesting.specs.Check.{Open, innerIndex, innerEnd, noCounts, onAct, endOf, onLast, checkOn, checkFrom, checkOf}
 
 -- the bytes of a record
 abbrev pub bytesAt : List ℕ → ℕ → ℕ → List ℕ

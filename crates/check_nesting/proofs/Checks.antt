@@ -6,11 +6,9 @@ use mathlib.Core.Bool.{Bool, true, false, cond}
 use Prim.Native.Nat.{ℕ, suc, _+_, _-_, _≤_, _<_}
 use native.Mathlib.Omega.{arith}
 use lib.ListN.{length, take, drop, set, replicate}
-use lib.Dec.{ltb, leb, eqb}
-use borrow.Author.Tests.{leb-false, eqb-false, lt-ltb, ltb-true}
+use lib.Dec.{ltb}
+use borrow.Author.Tests.{lt-ltb, ltb-true}
 use Rattle.common.specs.declared.Refusal.{Refusal}
-use Rattle.constants.specs.declared.Role.{Role}
-use Rattle.constants.specs.declared.Role.the-variants.{Neither, Opens, Closes}
 use Rattle.iter.specs.Step.{scanOf}
 use Rattle.iter.specs.Reading.{Rec, Reading, recAt, ended, more, onNext, readOf}
 use Rattle.iter.specs.declared.Scan.{Scan}
@@ -18,18 +16,16 @@ use Rattle.iter.specs.declared.Next.{Next}
 use Rattle.iter.specs.declared.Next.the-variants.{End, Refused, Record}
 use Rattle.iter.proofs.Reading.{Stepped, step-fits, read-by, Skips, skips}
 use Rattle.iter.proofs.Records.{bytes-length}
-use Rattle.kind.specs.Raw.{nestingRoleOf}
-use Rattle.links.specs.Links.{linksOf}
-use Rattle.links.specs.declared.Links.{Links}
-use Rattle.links.specs.declared.Links.the-variants.{Unread, Read}
 use Rattle.chain.specs.Chain.{chainOf, topOf}
 use Rattle.chain.specs.declared.Chain.{Chain}
 use Rattle.chain.proofs.Laws.{pushed, popped, push-stack, pop-tail, top-stack, top-none, pushed-is, popped-is}
+use Rattle.act.specs.declared.Act.{Act}
+use Rattle.act.specs.declared.Act.the-variants.{Stay, Push, Pop, Refused as Stop}
+use Rattle.act.specs.Act.{actOf}
+use Rattle.act.proofs.Acts.{Room, room}
 use Rattle.check_nesting.specs.declared.Counts.{Counts}
 use Rattle.check_nesting.specs.declared.Checked.the-variants.{Refused as Refuse}
-use Rattle.check_nesting.specs.declared.Act.{Act}
-use Rattle.check_nesting.specs.declared.Act.the-variants.{Stay, Push, Pop, Refused as Stop}
-use Rattle.check_nesting.specs.Check.{Open, innerIndex, innerEnd, openOf, actOfRole, actOf, noCounts, countedOf, openedOf, countRec, refuses, onAct, endOf, onLast, checkOn, checkFrom, checkOf}
+use Rattle.check_nesting.specs.Check.{Open, innerIndex, innerEnd, noCounts, countedOf, openedOf, countRec, refuses, onAct, endOf, onLast, checkOn, checkFrom, checkOf}
 
 -- one field of each open opener
 module _ (field : Open → ℕ) where
@@ -66,37 +62,6 @@ top-index (o ∷ st) h = top-each (λ x. x .index) o st h
 top-end : (st : List Open) → length st ≤ 64 → topOf (chainOf (ends st)) ≡ innerEnd st
 top-end [] h = top-none
 top-end (o ∷ st) h = top-each (λ x. x .end) o st h
-
--- an opener is pushed only below 64, and a closer pops only where one is open
-abbrev Room : ℕ → Act → Type 0
-Room d Stay = Unit
-Room d (Push end) = d < 64
-Room d Pop = d ≡ 0 → ⊥
-Room d (Stop n) = Unit
-
-room-open : (l : Links) (index d inner : ℕ) → Room d (openOf l index d inner)
-room-open Unread index d inner = tt
-room-open (Read parent end) index d inner = by (eqb index 0) (eqb parent inner) (leb 64 d) refl
-  where
-    by : (a b e : Bool) → leb 64 d ≡ e → Room d (cond a (Stop 7) (cond b (cond e (Stop 9) (Push end)) (Stop 8)))
-    by true b e q = tt
-    by false false e q = tt
-    by false true true q = tt
-    by false true false q = leb-false _ _ q
-
-room-role : (ro : Role) (bytes : List ℕ) (index d inner end : ℕ) → Room d (actOfRole ro bytes index d inner end)
-room-role Opens bytes index d inner end = room-open (linksOf bytes) index d inner
-room-role Closes bytes index d inner end = by (eqb d 0) refl (eqb end index)
-  where
-    by : (a : Bool) → eqb d 0 ≡ a → (b : Bool) → Room d (cond a (Stop 10) (cond b Pop (Stop 11)))
-    by true q b = tt
-    by false q true = eqb-false _ _ q
-    by false q false = tt
-room-role Neither bytes index d inner end = tt
-
-room : (bytes : List ℕ) (index d inner end : ℕ) → Room d (actOf bytes index d inner end)
-unfolding actOf
-room bytes index d inner end = room-role (nestingRoleOf bytes) bytes index d inner end
 
 -- what is known of a scan, in numbers
 pub record Scanned (s : List ℕ) (at : ℕ) (c : Scan) : Type 0 where

@@ -15,12 +15,13 @@ use Rattle.iter.specs.declared.Scan.{Scan}
 use Rattle.iter.specs.declared.Next.{Next}
 use Rattle.iter.specs.declared.Next.the-variants.{End, Refused, Record}
 use Rattle.iter.proofs.Records.{bytesOfRecords, adds-up}
+use Rattle.act.specs.declared.Act.{Act}
+use Rattle.act.specs.declared.Act.the-variants.{Stay, Push, Pop, Refused as Stop}
+use Rattle.act.specs.Act.{actOf}
 use Rattle.check_nesting.specs.declared.Counts.{Counts}
 use Rattle.check_nesting.specs.declared.Checked.{Checked}
 use Rattle.check_nesting.specs.declared.Checked.the-variants.{Good, Refused as Refuse}
-use Rattle.check_nesting.specs.declared.Act.{Act}
-use Rattle.check_nesting.specs.declared.Act.the-variants.{Stay, Push, Pop, Refused as Stop}
-use Rattle.check_nesting.specs.Check.{Open, innerIndex, innerEnd, actOf, noCounts, countedOf, openedOf, countRec, onAct, endOf, onLast, checkOn, checkFrom, checkOf, addsUp}
+use Rattle.check_nesting.specs.Check.{Open, innerIndex, innerEnd, noCounts, countedOf, openedOf, countRec, onAct, endOf, onLast, checkOn, checkFrom, checkOf, addsUp}
 
 module _ (last : Scan) (m : Counts) where
   -- a check that passes: what was counted and what is left make the sums of the answer, and the last step does not refuse

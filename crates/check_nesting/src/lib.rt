@@ -4,16 +4,12 @@
 ghost use mathlib.Core.Path.{_≡_};
 ghost use Prim.Native.Nat.{_+_, _-_, _<_, _≤_, _^_};
 ghost use lib.ListN.{set};
-ghost use Rattle.constants.specs.declared.Role.the-variants.{Opens};
-ghost use Rattle.kind.specs.Raw.{nestingRoleOf};
-ghost use Rattle.links.specs.Links.{linksOf};
-ghost use Rattle.check_nesting.specs.Check.{topAt, actOf, openOf, countedOf, openedOf, noCounts, endOf, refuses, checkOf, addsUp};
+ghost use Rattle.check_nesting.specs.Check.{countedOf, openedOf, noCounts, endOf, refuses, checkOf, addsUp};
+use act::Act;
 use chain::Chain;
 use common::Refusal;
-use constants::Role;
 use iter::Next;
 use iter::Scan;
-use links::Links;
 
 // Records yielded and their bytes, records passed over and theirs, openers, deepest nesting.
 pub struct Counts {
@@ -28,55 +24,6 @@ pub struct Counts {
 pub enum Checked {
     Good(Counts),
     Refused(Refusal),
-}
-
-// What the check does with a record: an opener comes with its end field, a refusal with its number.
-pub enum Act {
-    Stay,
-    Push(u32),
-    Pop,
-    Refused(u8),
-}
-
-// The act at a record, with so many openers open and their indexes and end fields. The innermost is looked at only where the record
-// opens or closes a scope.
-fn act_at(rec: &[u8], index: usize, opens: &[u32; 64], ends: &[u32; 64], depth: usize) -> Act
-    ensures { λ r. ⌜ r ≡ actOf (now (rec .entry)) index depth (topAt (now (opens .entry)) depth) (topAt (now (ends .entry)) depth) ⌝ }
-{
-    match kind::nesting_role(rec) {
-        Role::Opens => return open_at(rec, index, depth, innermost(opens, depth)),
-        Role::Closes => {
-            if depth == 0 {
-                return Act::Refused(10);
-            }
-            if innermost(ends, depth) as usize != index {
-                return Act::Refused(11);
-            }
-            return Act::Pop;
-        }
-        Role::Neither => return Act::Stay,
-    }
-}
-
-fn open_at(rec: &[u8], index: usize, depth: usize, inner: u32) -> Act
-    requires { ⌜ nestingRoleOf (now rec) ≡ Opens ⌝ }
-    ensures { λ r. ⌜ r ≡ openOf (linksOf (now (rec .entry))) index depth inner ⌝ }
-{
-    match links::links_of(rec) {
-        Links::Unread => return Act::Refused(6),
-        Links::Read { parent, end } => {
-            if index == 0 {
-                return Act::Refused(7);
-            }
-            if parent != inner {
-                return Act::Refused(8);
-            }
-            if 64 <= depth {
-                return Act::Refused(9);
-            }
-            return Act::Push(end);
-        }
-    }
 }
 
 fn no_counts() -> Counts
@@ -153,20 +100,6 @@ fn refused(number: u8, position: usize) -> Checked
     })
 }
 
-// The last of the first so many places, 0 if none.
-fn innermost(at: &[u32; 64], depth: usize) -> u32
-    ensures { λ r. ⌜ r ≡ topAt (now (at .entry)) depth ⌝ }
-{
-    if depth == 0 {
-        return 0;
-    }
-    let last = depth - 1;
-    if 64 <= last {
-        return 0;
-    }
-    at[last]
-}
-
 // Frees the place of the innermost opener; how many are open then.
 fn pop(opens: &mut [u32; 64], ends: &mut [u32; 64], depth: usize) -> usize
     requires { ⌜ 0 < depth ⌝ }
@@ -194,7 +127,7 @@ pub fn check(s: &[u8], start: usize) -> Checked
         let found = c.next;
         let depth = opens.depth;
         match found {
-            Next::End(_) => return at_end(n, c, depth, innermost(&opens.at, depth)),
+            Next::End(_) => return at_end(n, c, depth, act::innermost(&opens.at, depth)),
             Next::Refused(e) => return Checked::Refused(e),
             Next::Record {
                 index,
@@ -204,7 +137,7 @@ pub fn check(s: &[u8], start: usize) -> Checked
             } => {
                 n = counted(n, c, len);
                 at = next;
-                match act_at(&s[from..next], index, &opens.at, &ends, depth) {
+                match act::act_at(&s[from..next], index, &opens.at, &ends, depth) {
                     Act::Stay => {}
                     Act::Push(end) => {
                         opens.at[depth] = index as u32;

@@ -23,6 +23,7 @@ use Rattle.kind.specs.Raw.{rawKind, nestingRoleOf}
 use Rattle.blocks.specs.Block as S
 use Rattle.links.specs.Links.{linksOf}
 use Rattle.chain.specs.Chain.{chainOf}
+use Rattle.act.specs.Act.{actOf}
 use Rattle.check_nesting.specs.Check as C
 use Rattle.check_nesting.specs.declared.Checked.the-variants.{Good}
 use Rattle.finding.specs.Finding.{foundBy, refusedBy}
@@ -45,7 +46,7 @@ streamA =
 
 -- P1 A passes: 5 and 1 records, 64 and 4 bytes, 2 openers, depth 2.
 p1 : C.checkOf streamA 4 ≡ Good (record { records = 5; bytes = 64; passed = 1; skipped = 4; openers = 2; deepest = 2 })
-unfolding streamA C.checkOf C.checkFrom C.checkOn C.actOf C.noCounts C.countedOf C.openedOf C.countRec C.endOf readOf readFrom scanOf scanFrom frameAt B.le rawKind nestingRoleOf K.nestingRole K.roleOf K.find K.kinds linksOf decode byKind layout R._>>=_ R.uint N.run N.cstring N.symbolName S.block K.classOf
+unfolding streamA C.checkOf C.checkFrom C.checkOn actOf C.noCounts C.countedOf C.openedOf C.countRec C.endOf readOf readFrom scanOf scanFrom frameAt B.le rawKind nestingRoleOf K.nestingRole K.roleOf K.find K.kinds linksOf decode byKind layout R._>>=_ R.uint N.run N.cstring N.symbolName S.block K.classOf
 p1 = refl
 
 -- P2 i = 52: chain 4, 28; 3 read both ways. (`chainOf` takes a stack, the innermost first.)

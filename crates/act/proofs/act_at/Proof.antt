@@ -1,11 +1,11 @@
--- `check_nesting::act_at` meets its contract.
+-- `act::act_at` meets its contract.
 -- Assumes nothing.
 use borrow.Author.Needs.{needs}
 use mathlib.Core.Path.{sym, _∙_}
 use borrow.Author.Tests.{eq-eqb, ne-eqb}
-use Rattle.check_nesting.specs.Check.{actOf}
-use Rattle.check_nesting.proofs.act_at.Statement.{statement}
-use Rattle.check_nesting.proofs.act_at.Tie as tie
+use Rattle.act.specs.Act.{actOf}
+use Rattle.act.proofs.act_at.Statement.{statement}
+use Rattle.act.proofs.act_at.Tie as tie
 
 nesting-role-requires : tie.Need-nesting-role-requires
 nesting-role-requires c κs = search needs

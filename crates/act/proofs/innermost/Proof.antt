@@ -1,10 +1,10 @@
--- `check_nesting::innermost` meets its contract.
+-- `act::innermost` meets its contract.
 -- Assumes nothing.
 use borrow.Author.Needs.{needs}
 use borrow.Author.Tests.{eq-eqb, ne-eqb, le-leb, lt-leb}
 use Rattle.chain.specs.Chain.{topOf}
-use Rattle.check_nesting.proofs.innermost.Statement.{statement}
-use Rattle.check_nesting.proofs.innermost.Tie as tie
+use Rattle.act.proofs.innermost.Statement.{statement}
+use Rattle.act.proofs.innermost.Tie as tie
 
 returns : tie.Need-returns
 unfolding topOf

@@ -1,10 +1,10 @@
--- `check_nesting::open_at` meets its contract.
+-- `act::open_at` meets its contract.
 -- Assumes nothing.
 use borrow.Author.Needs.{needs}
 use mathlib.Core.Path.{sym, _∙_}
 use borrow.Author.Tests.{eq-eqb, ne-eqb, le-leb, lt-leb}
-use Rattle.check_nesting.proofs.open_at.Statement.{statement}
-use Rattle.check_nesting.proofs.open_at.Tie as tie
+use Rattle.act.proofs.open_at.Statement.{statement}
+use Rattle.act.proofs.open_at.Tie as tie
 
 links-of-requires : tie.Need-links-of-requires
 links-of-requires c κs = search needs
