@@ -10,7 +10,6 @@ use lib.ListN.{length, replicate, length-reverse}
 use lib.Seq.{take-at}
 use Rattle.constants.specs.declared.Role.the-variants.{Opens}
 use Rattle.iter.specs.Step.{scanOf, stepOf}
-use Rattle.iter.specs.declared.Next.{Next}
 use Rattle.iter.specs.declared.Next.the-variants as N
 use Rattle.iter.specs.declared.Scan.{Scan}
 use Rattle.iter.proofs.Records.{again}

@@ -7,28 +7,14 @@ use mathlib.Core.List.{List, [], _∷_}
 use mathlib.Core.Bool.{Bool, true, false}
 use native.Mathlib.Nat.{add-zero, add-assoc}
 use native.Mathlib.Omega.{arith}
-use borrow.Author.Tests.{le-leb, leb-true}
+use borrow.Author.Tests.{le-leb, leb-true, le-ltb, lt-ltb, ltb-true, ltb-false}
 use lib.ListN.{length}
-use lib.Dec.{leb}
+use lib.Dec.{leb, ltb}
 use Rattle.common.specs.Bytes.{le}
-use Rattle.common.specs.Reader.{value, refused, runsOut, Reader, done, _>>=_, uint}
+use Rattle.common.specs.Row.{Fields, total, filled, behind}
+use Rattle.common.specs.Reader.{Read, value, refused, runsOut, Reader, done, _>>=_, uint}
 use Rattle.common.specs.declared.Refusal.{Refusal}
 use Rattle.common.proofs.Readers.{uint-value, uint-short, then-value, then-refused}
-
--- a function of a number for each width
-abbrev pub Fields : List ℕ → Type 0 → Type 0
-Fields [] R = R
-Fields (w ∷ ws) R = ℕ → Fields ws R
-
--- the bytes that a row takes
-abbrev pub total : List ℕ → ℕ
-total [] = 0
-total (w ∷ ws) = w + total ws
-
--- f at the numbers of a row that stands at a position
-abbrev pub filled : {R : Type 0} (ws : List ℕ) → Fields ws R → List ℕ → ℕ → R
-filled [] f s at = f
-filled (w ∷ ws) f s at = filled ws (f (le w s at)) s (at + w)
 
 -- a row, and what m reads behind it; make is handed them all
 unfoldable pub tailed : {A B : Type 0} (ws : List ℕ) → Reader B → Fields ws (B → A) → Reader A
@@ -89,7 +75,43 @@ unfolding tailed
 tailed-short w ws m make s at h =
     sym (first-short w (λ x. tailed ws m (make x)) s at (λ r. tailed-short-within ws m (make (le w s at)) s (at + w) r (omega arith)))
 
-fixed-short-within : {A : Type 0} (ws : List ℕ) (make : Fields ws A) (s : List ℕ) (at : ℕ) → at ≤ length s → length s < at + total ws → fixed ws make s at ≡ refused runsOut
+pub behind-there : {B : Type 0} (m : Reader B) (at : ℕ) (s : List ℕ) → at ≤ length s → behind m at s ≡ m s at
+unfolding behind
+behind-there m at s h = rw (le-ltb (length s) at h)
+
+pub behind-short : {B : Type 0} (m : Reader B) (at : ℕ) (s : List ℕ) → length s < at → behind m at s ≡ refused runsOut
+unfolding behind
+behind-short m at s h = rw (lt-ltb (length s) at h)
+
+-- what stands behind fields is read only where they are
+pub behind-room : {B : Type 0} (m : Reader B) (at : ℕ) (s : List ℕ) {b : B} {to : ℕ} → value b to ≡ behind m at s → at ≤ length s
+behind-room {B} m at s {b} {to} e = go (ltb (length s) at) refl
+  where
+    go : (x : Bool) → ltb (length s) at ≡ x → at ≤ length s
+    go true q = let n : value b to ≡ refused runsOut = e ∙ behind-short m at s (ltb-true _ _ q) in absurd (let z : _≡_ {A = ℕ} 0 1 = cc in omega arith)
+    go false q = ltb-false _ _ q
+
+-- a row and what m reads behind it, by what is read behind the row
+module _ {A B : Type 0} (ws : List ℕ) (m : Reader B) (make : Fields ws (B → A)) (s : List ℕ) (at : ℕ) where
+  pub behind-value : {b : B} {to : ℕ} → value b to ≡ behind m (at + total ws) s → value (filled ws make s at b) to ≡ tailed ws m make s at
+  behind-value e =
+      let h = behind-room m (at + total ws) s e in
+      tailed-value ws m make s at h (e ∙ behind-there m (at + total ws) s h)
+
+  pub behind-refused : at ≤ length s → {e : Refusal} → refused e ≡ behind m (at + total ws) s → refused e ≡ tailed ws m make s at
+  behind-refused g {e} q = go (ltb (length s) (at + total ws)) refl
+    where
+      go : (x : Bool) → ltb (length s) (at + total ws) ≡ x → refused e ≡ tailed ws m make s at
+      go true r =
+          let h = ltb-true _ _ r in
+          let n : _≡_ {A = Read B} (refused e) (refused runsOut) = q ∙ behind-short m (at + total ws) s h in
+          let same : e ≡ runsOut = cc in
+          ap refused same ∙ sym (tailed-short-within ws m make s at g h)
+      go false r =
+          let h = ltb-false _ _ r in
+          tailed-refused ws m make s at h (q ∙ behind-there m (at + total ws) s h)
+
+pub fixed-short-within : {A : Type 0} (ws : List ℕ) (make : Fields ws A) (s : List ℕ) (at : ℕ) → at ≤ length s → length s < at + total ws → fixed ws make s at ≡ refused runsOut
 unfolding fixed
 fixed-short-within [] make s at g h = absurd (omega arith)
 fixed-short-within (w ∷ ws) make s at g h =

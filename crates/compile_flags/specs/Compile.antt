@@ -35,6 +35,10 @@ compileOf isCompile3 language flags machine frontend backend name =
     })
 
 -- COMPILESYM
+abbrev pub compile2Of : ℕ → ℕ → ℕ → ℕ → ℕ → ℕ → ℕ → ℕ → ℕ → ℕ → Part → SymbolData
+compile2Of language flags ignored machine feMajor feMinor feBuild major minor build =
+    compileOf false language flags machine (version feMajor feMinor feBuild) (version major minor build)
+
 unfoldable pub compile2 : ℕ → Reader SymbolData
 compile2 kind = do
   language ← u8
@@ -48,9 +52,13 @@ compile2 kind = do
   minor ← u16
   build ← u16
   name ← symbolName kind
-  done (compileOf false language flags machine (version feMajor feMinor feBuild) (version major minor build) name)
+  done (compile2Of language flags ignored machine feMajor feMinor feBuild major minor build name)
 
 -- COMPILESYM3
+abbrev pub compile3Of : ℕ → ℕ → ℕ → ℕ → ℕ → ℕ → ℕ → ℕ → ℕ → ℕ → ℕ → ℕ → Part → SymbolData
+compile3Of language flags ignored machine feMajor feMinor feBuild feQfe major minor build qfe =
+    compileOf true language flags machine (versionWithQfe feMajor feMinor feBuild feQfe) (versionWithQfe major minor build qfe)
+
 unfoldable pub compile3 : ℕ → Reader SymbolData
 compile3 kind = do
   language ← u8
@@ -66,7 +74,7 @@ compile3 kind = do
   build ← u16
   qfe ← u16
   name ← symbolName kind
-  done (compileOf true language flags machine (versionWithQfe feMajor feMinor feBuild feQfe) (versionWithQfe major minor build qfe) name)
+  done (compile3Of language flags ignored machine feMajor feMinor feBuild feQfe major minor build qfe name)
 
 -- S_COMPILE3 is a COMPILESYM3, S_COMPILE2 and S_COMPILE2_ST are COMPILESYM
 unfoldable pub compile : ℕ → Reader SymbolData

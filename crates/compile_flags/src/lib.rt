@@ -1,22 +1,19 @@
-// How the module was compiled: the flags, and the versions of the compiler.
+// The fields of the records that say how the module was compiled: the flags, and the versions of the compiler.
 //
-// Each function takes a record of its class, kind first, and answers the typed record and the bytes that it took.
-// The arms of a match return: where they met, one more `Decoded` would stand at every step of the proof.
+// Each function reads the fields of a record that is long enough for them, kind first, so that they start at position 2.
 ghost use mathlib.Core.Path.{_≡_};
+ghost use mathlib.Core.List.{[], _∷_};
 ghost use Prim.Native.Nat.{_+_, _≤_};
 ghost use lib.ListN.{length};
 ghost use Rattle.common.specs.Bytes.{le};
-ghost use Rattle.records.specs.Answer.{decodedOf};
-ghost use Rattle.compile_flags.specs.Compile.{version, versionWithQfe, compile2, compile3, compile};
-use common::Refusal;
-use constants::S_COMPILE3;
+ghost use Rattle.common.specs.Row.{filled};
+ghost use Rattle.records.specs.declared.SymbolData.the-variants as D;
+ghost use Rattle.compile_flags.specs.Compile.{version, versionWithQfe, compile2Of, compile3Of};
 use flags::CompileFlags;
-use names::ParsedPart;
+use names::Part;
 use records::CompileFlagsSymbol;
 use records::CompilerVersion;
-use records::Decoded;
 use records::OptionU16;
-use records::SymbolData;
 
 fn version_at(s: &[u8], at: usize) -> CompilerVersion
     requires { ⌜ at + 6 ≤ length (now s) ⌝ }
@@ -43,56 +40,31 @@ fn version_with_qfe_at(s: &[u8], at: usize) -> CompilerVersion
 }
 
 // S_COMPILE2 and S_COMPILE2_ST: two versions of three numbers.
-fn parse_compile2(s: &[u8], kind: u16) -> Decoded
-    ensures { λ r. ⌜ decodedOf r ≡ compile2 kind (now (s .entry)) 2 ⌝ }
+pub fn compile2(s: &[u8], version_string: Part) -> CompileFlagsSymbol
+    requires { ⌜ 20 ≤ length (now s) ⌝ }
+    ensures { λ r. ⌜ D.CompileFlags r ≡ filled (1 ∷ 2 ∷ 1 ∷ 2 ∷ 2 ∷ 2 ∷ 2 ∷ 2 ∷ 2 ∷ 2 ∷ []) compile2Of (now (s .entry)) 2 «version_string» ⌝ }
 {
-    if s.len() < 20 {
-        return Decoded::Refused(Refusal::UNEXPECTED_EOF);
-    }
-    match names::parse_symbol_name(s, 20, kind) {
-        ParsedPart::Value(version_string, next) => {
-            let data = CompileFlagsSymbol {
-                language: compilers::source_language(common::u8_at(s, 2)),
-                flags: CompileFlags::from_bits(common::u16_at(s, 3), false),
-                cpu_type: compilers::cpu_type(common::u16_at(s, 6)),
-                frontend_version: version_at(s, 8),
-                backend_version: version_at(s, 14),
-                version_string,
-            };
-            return Decoded::Record(SymbolData::CompileFlags(data), next);
-        }
-        ParsedPart::Refused(e) => return Decoded::Refused(e),
+    CompileFlagsSymbol {
+        language: compilers::source_language(common::u8_at(s, 2)),
+        flags: CompileFlags::from_bits(common::u16_at(s, 3), false),
+        cpu_type: compilers::cpu_type(common::u16_at(s, 6)),
+        frontend_version: version_at(s, 8),
+        backend_version: version_at(s, 14),
+        version_string,
     }
 }
 
 // S_COMPILE3: two versions of four numbers.
-fn parse_compile3(s: &[u8], kind: u16) -> Decoded
-    ensures { λ r. ⌜ decodedOf r ≡ compile3 kind (now (s .entry)) 2 ⌝ }
+pub fn compile3(s: &[u8], version_string: Part) -> CompileFlagsSymbol
+    requires { ⌜ 24 ≤ length (now s) ⌝ }
+    ensures { λ r. ⌜ D.CompileFlags r ≡ filled (1 ∷ 2 ∷ 1 ∷ 2 ∷ 2 ∷ 2 ∷ 2 ∷ 2 ∷ 2 ∷ 2 ∷ 2 ∷ 2 ∷ []) compile3Of (now (s .entry)) 2 «version_string» ⌝ }
 {
-    if s.len() < 24 {
-        return Decoded::Refused(Refusal::UNEXPECTED_EOF);
+    CompileFlagsSymbol {
+        language: compilers::source_language(common::u8_at(s, 2)),
+        flags: CompileFlags::from_bits(common::u16_at(s, 3), true),
+        cpu_type: compilers::cpu_type(common::u16_at(s, 6)),
+        frontend_version: version_with_qfe_at(s, 8),
+        backend_version: version_with_qfe_at(s, 16),
+        version_string,
     }
-    match names::parse_symbol_name(s, 24, kind) {
-        ParsedPart::Value(version_string, next) => {
-            let data = CompileFlagsSymbol {
-                language: compilers::source_language(common::u8_at(s, 2)),
-                flags: CompileFlags::from_bits(common::u16_at(s, 3), true),
-                cpu_type: compilers::cpu_type(common::u16_at(s, 6)),
-                frontend_version: version_with_qfe_at(s, 8),
-                backend_version: version_with_qfe_at(s, 16),
-                version_string,
-            };
-            return Decoded::Record(SymbolData::CompileFlags(data), next);
-        }
-        ParsedPart::Refused(e) => return Decoded::Refused(e),
-    }
-}
-
-pub fn parse_compile_flags(s: &[u8], kind: u16) -> Decoded
-    ensures { λ r. ⌜ decodedOf r ≡ compile kind (now (s .entry)) 2 ⌝ }
-{
-    if kind == S_COMPILE3 {
-        return parse_compile3(s, kind);
-    }
-    parse_compile2(s, kind)
 }

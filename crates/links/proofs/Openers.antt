@@ -25,7 +25,7 @@ use Rattle.procedures.specs.Procedure.{procedure}
 use Rattle.blocks.specs.Block.{block, separatedCode}
 use Rattle.inline_sites.specs.Inline.{plainSite, countedSite, inlineSite}
 use Rattle.thunks.specs.Thunk.{thunk}
-use Rattle.symbol.specs.Decode.{layout, byKind, decode}
+use Rattle.layouts.specs.Decode.{layout, byKind, decode}
 use Rattle.symbol_name.specs.Name.{namedBy, nameOf}
 use Rattle.symbol_name.specs.declared.Named.the-variants as N
 use Rattle.links.specs.Links.{linksIn, linksBy, linksOf}

@@ -61,7 +61,7 @@ fn print_shown(name: &[u8]) {
 fn print_name(record: &[u8]) {
     match symbol_name::name(record) {
         Named::Answer(has) => match has {
-            OptionPart::Some(_) => print_shown(symbol_name::name_bytes(record)),
+            OptionPart::Some(_) => print_shown(name_bytes::name_bytes(record)),
             OptionPart::None => {
                 io::write_all(1, b"-");
             }

@@ -3,7 +3,7 @@
 // A call that answers returns 0 and writes its words to those lent to it, from place 0 on; one that refuses returns the number of the
 // refusal and writes two, position and detail. Every other word stays as it was. No call keeps a reference or allocates.
 ghost use Rattle.kind.specs.Raw.{rawKind};
-ghost use Rattle.symbol.specs.Decode.{decode};
+ghost use Rattle.layouts.specs.Decode.{decode};
 ghost use Rattle.symbol_name.specs.Name.{nameOf};
 ghost use Rattle.register_entry.specs.Entry.{registerEntry};
 ghost use Rattle.iter.specs.Step.{stepOf};

@@ -1,56 +1,32 @@
-// The records about the module itself: its object file, the namespaces that it uses and its build information.
+// The fields of the records about the module itself: its object file and its build information.
 //
-// Each function takes a record of its class, kind first, and answers the typed record and the bytes that it took.
-// The arms of a match return: where they met, one more `Decoded` would stand at every step of the proof.
+// Each function reads the fields of a record that is long enough for them, kind first, so that they start at position 2.
 ghost use mathlib.Core.Path.{_≡_};
-ghost use Rattle.records.specs.Answer.{decodedOf};
-ghost use Rattle.modules.specs.Module.{objName, usingNamespace, buildInfo};
-use common::Refusal;
-use names::ParsedPart;
+ghost use mathlib.Core.List.{[], _∷_};
+ghost use Prim.Native.Nat.{_≤_};
+ghost use lib.ListN.{length};
+ghost use Rattle.common.specs.Row.{filled};
+ghost use Rattle.records.specs.declared.SymbolData.the-variants.{BuildInfo, ObjName};
+ghost use Rattle.modules.specs.Module.{buildInfoOf, objNameOf};
+use names::Part;
 use records::BuildInfoSymbol;
-use records::Decoded;
 use records::ObjNameSymbol;
-use records::SymbolData;
-use records::UsingNamespaceSymbol;
 
-pub fn parse_build_info(s: &[u8]) -> Decoded
-    ensures { λ r. ⌜ decodedOf r ≡ buildInfo (now (s .entry)) 2 ⌝ }
+pub fn build_info(s: &[u8]) -> BuildInfoSymbol
+    requires { ⌜ 6 ≤ length (now s) ⌝ }
+    ensures { λ r. ⌜ BuildInfo r ≡ filled (4 ∷ []) buildInfoOf (now (s .entry)) 2 ⌝ }
 {
-    if s.len() < 6 {
-        return Decoded::Refused(Refusal::UNEXPECTED_EOF);
-    }
-    let data = BuildInfoSymbol {
+    BuildInfoSymbol {
         id: common::u32_at(s, 2),
-    };
-    Decoded::Record(SymbolData::BuildInfo(data), 6)
-}
-
-pub fn parse_obj_name(s: &[u8], kind: u16) -> Decoded
-    ensures { λ r. ⌜ decodedOf r ≡ objName kind (now (s .entry)) 2 ⌝ }
-{
-    if s.len() < 6 {
-        return Decoded::Refused(Refusal::UNEXPECTED_EOF);
-    }
-    match names::parse_symbol_name(s, 6, kind) {
-        ParsedPart::Value(name, next) => {
-            let data = ObjNameSymbol {
-                signature: common::u32_at(s, 2),
-                name,
-            };
-            return Decoded::Record(SymbolData::ObjName(data), next);
-        }
-        ParsedPart::Refused(e) => return Decoded::Refused(e),
     }
 }
 
-pub fn parse_using_namespace(s: &[u8], kind: u16) -> Decoded
-    ensures { λ r. ⌜ decodedOf r ≡ usingNamespace kind (now (s .entry)) 2 ⌝ }
+pub fn obj_name(s: &[u8], name: Part) -> ObjNameSymbol
+    requires { ⌜ 6 ≤ length (now s) ⌝ }
+    ensures { λ r. ⌜ ObjName r ≡ filled (4 ∷ []) objNameOf (now (s .entry)) 2 name ⌝ }
 {
-    match names::parse_symbol_name(s, 2, kind) {
-        ParsedPart::Value(name, next) => {
-            let data = UsingNamespaceSymbol { name };
-            return Decoded::Record(SymbolData::UsingNamespace(data), next);
-        }
-        ParsedPart::Refused(e) => return Decoded::Refused(e),
+    ObjNameSymbol {
+        signature: common::u32_at(s, 2),
+        name,
     }
 }

@@ -15,7 +15,7 @@ use Rattle.variant.specs.declared.Variant.the-variants.{I16, U8}
 use Rattle.constants.specs.Kind as K
 use Rattle.records.specs.declared.SymbolData.the-variants.{Constant, UserDefinedType}
 use Rattle.variables.specs.Variable as L
-use Rattle.symbol.specs.Decode.{layout, byKind, decode}
+use Rattle.layouts.specs.Decode.{layout, byKind, decode}
 use Rattle.iter.specs.Reading.{readFrom, readOf}
 use Rattle.iter.specs.Step.{frameAt, scanFrom, scanOf, stepOf}
 use Rattle.iter.specs.declared.Next.the-variants.{End, Refused}

@@ -6,7 +6,8 @@ use mathlib.Core.List.{List, [], _∷_}
 use lib.ListN.{length}
 use Rattle.common.specs.Reader.{value, refused, runsOut, Reader}
 use Rattle.common.specs.declared.Refusal.{Refusal}
-use Rattle.common.proofs.Rows.{filled, tailed, tailed-value, tailed-refused, tailed-short}
+use Rattle.common.specs.Row.{filled}
+use Rattle.common.proofs.Rows.{tailed, tailed-value, tailed-refused, tailed-short}
 use Rattle.records.specs.declared.SymbolData.{SymbolData}
 use Rattle.references.specs.Reference.{reference}
 

@@ -1,14 +1,21 @@
 // References to what another module holds: procedures, data and annotations.
 //
-// The arms of a match return: where they met, one more `Decoded` would stand at every step of the proof.
+// Those to procedures and data are decoded here whole, since they may lack a name; of those to annotations the fields are read. The arms
+// of a match return: where they met, one more `Decoded` would stand at every step of the proof.
 ghost use mathlib.Core.Path.{_≡_};
+ghost use mathlib.Core.List.{[], _∷_};
+ghost use Prim.Native.Nat.{_≤_};
+ghost use lib.ListN.{length};
+ghost use Rattle.common.specs.Row.{filled};
+ghost use Rattle.records.specs.declared.SymbolData.the-variants.{AnnotationReference};
 ghost use Rattle.records.specs.Answer.{decodedOf};
-ghost use Rattle.references.specs.Reference.{optionalName, procedureReference, dataReference, annotationReference};
+ghost use Rattle.references.specs.Reference.{optionalName, procedureReference, dataReference, annotationReferenceOf};
 ghost use Rattle.references.specs.Answer.{optionalOf};
 use common::Refusal;
 use constants::S_PROCREF;
 use constants::S_PROCREF_ST;
 use names::ParsedPart;
+use names::Part;
 use names::S_ST_MAX;
 use records::AnnotationReferenceSymbol;
 use records::DataReferenceSymbol;
@@ -77,22 +84,14 @@ pub fn parse_data_reference(s: &[u8], kind: u16) -> Decoded
     }
 }
 
-pub fn parse_annotation_reference(s: &[u8], kind: u16) -> Decoded
-    ensures { λ r. ⌜ decodedOf r ≡ annotationReference kind (now (s .entry)) 2 ⌝ }
+pub fn annotation_reference(s: &[u8], name: Part) -> AnnotationReferenceSymbol
+    requires { ⌜ 12 ≤ length (now s) ⌝ }
+    ensures { λ r. ⌜ AnnotationReference r ≡ filled (4 ∷ 4 ∷ 2 ∷ []) annotationReferenceOf (now (s .entry)) 2 name ⌝ }
 {
-    if s.len() < 12 {
-        return Decoded::Refused(Refusal::UNEXPECTED_EOF);
-    }
-    match names::parse_symbol_name(s, 12, kind) {
-        ParsedPart::Value(name, next) => {
-            let data = AnnotationReferenceSymbol {
-                sum_name: common::u32_at(s, 2),
-                symbol_index: common::u32_at(s, 6),
-                module: records::module_of(common::u16_at(s, 10)),
-                name,
-            };
-            return Decoded::Record(SymbolData::AnnotationReference(data), next);
-        }
-        ParsedPart::Refused(e) => return Decoded::Refused(e),
+    AnnotationReferenceSymbol {
+        sum_name: common::u32_at(s, 2),
+        symbol_index: common::u32_at(s, 6),
+        module: records::module_of(common::u16_at(s, 10)),
+        name,
     }
 }

@@ -17,7 +17,7 @@ use Rattle.common.specs.declared.Refusal.{Refusal}
 use Rattle.records.specs.declared.SymbolData.{SymbolData}
 use Rattle.kind.specs.Raw.{rawKind}
 use Rattle.records.specs.declared.OptionPart.{OptionPart}
-use Rattle.symbol.specs.Decode.{decode}
+use Rattle.layouts.specs.Decode.{decode}
 use Rattle.symbol_name.specs.Name.{namedBy, nameOf}
 use Rattle.symbol_name.specs.declared.Named.the-variants as N
 use Rattle.register_entry.specs.Entry.{isList, countedEntry, listEntry, entryIn, registerEntry}

@@ -10,7 +10,7 @@ use Rattle.records.specs.declared.SymbolData.{SymbolData}
 use Rattle.registers.specs.Registers.{registerCount, entryAt}
 use Rattle.registers.specs.declared.RegisterEntry.{RegisterEntry}
 use Rattle.kind.specs.Raw.{rawKind}
-use Rattle.symbol.specs.Decode.{decode}
+use Rattle.layouts.specs.Decode.{decode}
 
 -- a kind of the class MultiRegisterVariable, the sixth
 unfoldable pub isList : ℕ → Bool

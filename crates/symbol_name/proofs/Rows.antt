@@ -1,25 +1,30 @@
 -- The name of a record that is a fixed part and a name behind it, or nothing.
 -- Assumes nothing.
-use Prim.Native.Nat.{ℕ, _+_, _≤_, _<_}
+use Prim.Native.Nat.{ℕ, _+_, _≤_}
 use mathlib.Core.Path.{_≡_, refl, ap, _∙_, sym}
 use mathlib.Core.List.{List, [], _∷_}
 use mathlib.Core.Bool.{Bool, true, false, cond}
-use native.Mathlib.Omega.{arith}
 use borrow.Author.Tests.{ltb-true, ltb-false}
 use lib.ListN.{length}
 use lib.Dec.{ltb}
 use Rattle.common.specs.Bytes.{le}
 use Rattle.common.specs.Reader.{Read, value, refused, runsOut, Reader}
-use Rattle.common.proofs.Rows.{Fields, total, filled, tailed, fixed, tailed-value, tailed-refused, tailed-short, fixed-value, fixed-short}
-use Rattle.names.specs.Name.{symbolName, pascal, cstring}
+use Rattle.common.specs.Row.{Fields, total, filled, behind}
+use Rattle.common.proofs.Rows.{tailed, fixed, behind-value, behind-refused, fixed-value, fixed-short-within}
+use Rattle.names.specs.Name.{symbolName}
 use Rattle.names.specs.declared.Part.{Part}
-use Rattle.names.proofs.Names.{pascal-short, cstring-short}
 use Rattle.records.specs.declared.OptionPart.{OptionPart}
 use Rattle.records.specs.declared.OptionPart.the-variants.{None}
 use Rattle.records.specs.declared.SymbolData.{SymbolData}
+use Rattle.record_names.specs.Row.{namedRow}
+use Rattle.layouts.specs.Named.{namedLayout, namedOf}
+use Rattle.record_names.specs.declared.NamedRecord.{NamedRecord}
+use Rattle.layouts.proofs.Rows.{named-row}
+use Rattle.fixed_records.specs.Fixed.{fixedLayout, fixedRow, fixedOf}
+use Rattle.fixed_records.specs.declared.FixedRecord.{FixedRecord}
+use Rattle.fixed_records.proofs.Rows.{fixed-row}
 use Rattle.symbol_name.specs.Name.{nameIn, namedBy}
-use Rattle.symbol_name.specs.Behind.{answered, behind, nothingBehind}
-use Rattle.symbol_name.specs.declared.Named.{Named}
+use Rattle.symbol_name.specs.Behind.{answered, nothingBehind}
 use Rattle.symbol_name.specs.declared.Named.the-variants as N
 
 -- whatever the numbers of the row are, the record's name is what f makes of b
@@ -40,39 +45,24 @@ unnamed-filled [] make n s at = n
 unnamed-filled (w ∷ ws) make n s at = unnamed-filled ws (make (le w s at)) (n (le w s at)) s (at + w)
 
 -- a row that starts at 2, and what m reads behind it
-pub row-name : {B : Type 0} (f : B → OptionPart) (w : ℕ) (ws : List ℕ) (m : Reader B) (make : Fields (w ∷ ws) (B → SymbolData)) → Names f (w ∷ ws) make → (s : List ℕ) → behind f m (2 + total (w ∷ ws)) s ≡ namedBy (tailed (w ∷ ws) m make s 2)
-row-name {B} f w ws m make n s = go (ltb (length s) (2 + total (w ∷ ws))) refl
+pub row-name : {B : Type 0} (f : B → OptionPart) (ws : List ℕ) (m : Reader B) (make : Fields ws (B → SymbolData)) → Names f ws make → (s : List ℕ) → 2 ≤ length s → answered f (behind m (2 + total ws) s) ≡ namedBy (tailed ws m make s 2)
+row-name {B} f ws m make n s g = go (behind m (2 + total ws) s) refl
   where
-    read : 2 + total (w ∷ ws) ≤ length s → (r : Read B) → m s (2 + total (w ∷ ws)) ≡ r → answered f r ≡ namedBy (tailed (w ∷ ws) m make s 2)
-    read h (value b to) e = ap N.Answer (sym (named-filled f (w ∷ ws) make n s 2 b)) ∙ ap namedBy (tailed-value (w ∷ ws) m make s 2 h (sym e))
-    read h (refused x) e = ap namedBy (tailed-refused (w ∷ ws) m make s 2 h (sym e))
-
-    go : (b : Bool) → ltb (length s) (2 + total (w ∷ ws)) ≡ b → cond b (N.Refused runsOut) (answered f (m s (2 + total (w ∷ ws)))) ≡ namedBy (tailed (w ∷ ws) m make s 2)
-    go true e = ap namedBy (tailed-short w ws m make s 2 (ltb-true _ _ e))
-    go false e = read (ltb-false _ _ e) (m s (2 + total (w ∷ ws))) refl
+    go : (r : Read B) → behind m (2 + total ws) s ≡ r → answered f r ≡ namedBy (tailed ws m make s 2)
+    go (value b to) e = ap N.Answer (sym (named-filled f ws make n s 2 b)) ∙ ap namedBy (behind-value ws m make s 2 (sym e))
+    go (refused x) e = ap namedBy (behind-refused ws m make s 2 g (sym e))
 
 -- a row that starts at 2, and nothing behind it
-pub row-no-name : (w : ℕ) (ws : List ℕ) (make : Fields (w ∷ ws) SymbolData) → Unnamed (w ∷ ws) make → (s : List ℕ) → nothingBehind (2 + total (w ∷ ws)) s ≡ namedBy (fixed (w ∷ ws) make s 2)
+row-no-name : (ws : List ℕ) (make : Fields ws SymbolData) → Unnamed ws make → (s : List ℕ) → 2 ≤ length s → nothingBehind (2 + total ws) s ≡ namedBy (fixed ws make s 2)
 unfolding nothingBehind
-row-no-name w ws make n s = go (ltb (length s) (2 + total (w ∷ ws))) refl
+row-no-name ws make n s g = go (ltb (length s) (2 + total ws)) refl
   where
-    go : (b : Bool) → ltb (length s) (2 + total (w ∷ ws)) ≡ b → cond b (N.Refused runsOut) (N.Answer None) ≡ namedBy (fixed (w ∷ ws) make s 2)
-    go true e = ap namedBy (fixed-short w ws make s 2 (ltb-true _ _ e))
-    go false e = ap N.Answer (sym (unnamed-filled (w ∷ ws) make n s 2)) ∙ ap namedBy (fixed-value (w ∷ ws) make s 2 (ltb-false _ _ e))
+    go : (b : Bool) → ltb (length s) (2 + total ws) ≡ b → cond b (N.Refused runsOut) (N.Answer None) ≡ namedBy (fixed ws make s 2)
+    go true e = ap namedBy (sym (fixed-short-within ws make s 2 g (ltb-true _ _ e)))
+    go false e = ap N.Answer (sym (unnamed-filled ws make n s 2)) ∙ ap namedBy (fixed-value ws make s 2 (ltb-false _ _ e))
 
--- past the end there is no name
-name-past : (k : ℕ) (s : List ℕ) (at : ℕ) → length s < at → symbolName k s at ≡ refused runsOut
-unfolding symbolName
-name-past k s at h = go (ltb k 0x1100)
-  where
-    go : (b : Bool) → cond b pascal cstring s at ≡ refused runsOut
-    go true = sym (pascal-short s at (omega arith))
-    go false = sym (cstring-short s at refl (omega arith))
+pub named-name : (f : Part → OptionPart) (r : NamedRecord) (kind : ℕ) → Names f (namedRow r) (namedOf r kind) → (s : List ℕ) → 2 ≤ length s → answered f (behind (symbolName kind) (2 + total (namedRow r)) s) ≡ namedBy (namedLayout r kind s 2)
+named-name f r kind n s g = row-name f (namedRow r) (symbolName kind) (namedOf r kind) n s g ∙ ap namedBy (named-row r kind s 2)
 
--- so that a test of the room changes nothing where the name comes first
-pub room-of-name : (f : Part → OptionPart) (kind : ℕ) (s : List ℕ) (at : ℕ) → behind f (symbolName kind) at s ≡ answered f (symbolName kind s at)
-room-of-name f kind s at = go (ltb (length s) at) refl
-  where
-    go : (b : Bool) → ltb (length s) at ≡ b → cond b (N.Refused runsOut) (answered f (symbolName kind s at)) ≡ answered f (symbolName kind s at)
-    go true e = ap (answered f) (sym (name-past kind s at (ltb-true _ _ e)))
-    go false e = refl
+pub bare-name : (r : FixedRecord) → Unnamed (fixedRow r) (fixedOf r) → (s : List ℕ) → 2 ≤ length s → nothingBehind (2 + total (fixedRow r)) s ≡ namedBy (fixedLayout r s 2)
+bare-name r n s g = row-no-name (fixedRow r) (fixedOf r) n s g ∙ ap namedBy (fixed-row r s 2)

@@ -1,15 +1,14 @@
 -- Name (document 01, "Name"): decode's refusals; whether there is a name, and the part of the lent record that it is.
 use Prim.Native.Nat.{ℕ}
-use mathlib.Core.List.{List, []}
+use mathlib.Core.List.{List}
 use Rattle.common.specs.Reader.{Read, value, refused}
-use Rattle.names.specs.Name.{bytesOf}
 use Rattle.records.specs.declared.OptionPart.{OptionPart}
 use Rattle.records.specs.declared.OptionPart.the-variants.{None, Some}
 use Rattle.records.specs.declared.SymbolData.{SymbolData}
 use Rattle.records.specs.declared.SymbolData.the-variants as D
 use Rattle.symbol_name.specs.declared.Named.{Named}
 use Rattle.symbol_name.specs.declared.Named.the-variants as N
-use Rattle.symbol.specs.Decode.{decode}
+use Rattle.layouts.specs.Decode.{decode}
 
 -- Registers, register lists and compile flags have none (pdb's SymbolData::name).
 abbrev pub nameIn : SymbolData → OptionPart
@@ -48,12 +47,3 @@ namedBy (refused e) = N.Refused e
 
 unfoldable pub nameOf : List ℕ → Named
 nameOf s = namedBy (decode s)
-
--- the part itself; the empty part where there is none
-abbrev pub bytesNamed : List ℕ → Named → List ℕ
-bytesNamed s (N.Answer None) = []
-bytesNamed s (N.Answer (Some p)) = bytesOf s p
-bytesNamed s (N.Refused e) = []
-
-unfoldable pub nameBytes : List ℕ → List ℕ
-nameBytes s = bytesNamed s (nameOf s)

@@ -1,21 +1,31 @@
 // The name of a record (pdb's SymbolData::name), found without building the typed record.
 ghost use mathlib.Core.Path.{_≡_};
+ghost use Prim.Native.Nat.{_+_, _≤_};
+ghost use lib.ListN.{length};
+ghost use Rattle.common.specs.Row.{total, behind};
+ghost use Rattle.names.specs.Name.{symbolName};
+ghost use Rattle.records.specs.declared.OptionPart.the-variants.{None, Some};
+ghost use Rattle.references.specs.Reference.{optionalName};
+ghost use Rattle.record_names.specs.Row.{namedRow};
+ghost use Rattle.fixed_records.specs.Fixed.{fixedRow};
 ghost use Rattle.constants.specs.Kind.{classOf};
-ghost use Rattle.symbol.specs.Decode.{layout};
+ghost use Rattle.layouts.specs.Decode.{layout};
 ghost use Rattle.compile_flags.specs.Compile.{compile};
 ghost use Rattle.registers.specs.Registers.{multiRegisterVariable};
 ghost use Rattle.inline_sites.specs.Inline.{inlineSite};
 ghost use Rattle.thunks.specs.Thunk.{thunk};
 ghost use Rattle.variables.specs.Variable.{constant};
-ghost use Rattle.symbol_name.specs.Name.{nameOf, namedBy, nameBytes};
-ghost use Rattle.symbol_name.specs.Behind.{namedBehind, unnamedBehind, optionalBehind, nothingBehind, entriesBehind};
+ghost use Rattle.symbol_name.specs.Name.{nameOf, namedBy};
+ghost use Rattle.symbol_name.specs.Behind.{answered, nothingBehind, entriesBehind};
 use common::Refusal;
 use constants::Class;
 use constants::S_COMPILE3;
 use constants::S_INLINESITE2;
 use constants::S_MANYREG2;
 use constants::S_MANYREG2_ST;
+use fixed_records::FixedRecord;
 use names::ParsedPart;
+use record_names::NamedRecord;
 use records::OptionPart;
 use references::ParsedOptionPart;
 use registers::Skipped;
@@ -28,27 +38,21 @@ pub enum Named {
     Refused(Refusal),
 }
 
-// A record whose name stands behind a fixed part that ends at a position.
-fn named_behind(s: &[u8], at: usize, kind: u16) -> Named
-    ensures { λ r. ⌜ r ≡ namedBehind at kind (now (s .entry)) ⌝ }
+// A record whose name stands behind its fields.
+fn named_record(s: &[u8], kind: u16, record: NamedRecord) -> Named
+    ensures { λ r. ⌜ r ≡ answered Some (behind (symbolName kind) (2 + total (namedRow «record»)) (now (s .entry))) ⌝ }
 {
-    if s.len() < at {
-        return Named::Refused(Refusal::UNEXPECTED_EOF);
-    }
-    match names::parse_symbol_name(s, at, kind) {
+    match record_names::parse_name(s, kind, record) {
         ParsedPart::Value(name, _) => Named::Answer(OptionPart::Some(name)),
         ParsedPart::Refused(e) => Named::Refused(e),
     }
 }
 
 // A record whose bytes hold a name that is not answered.
-fn unnamed_behind(s: &[u8], at: usize, kind: u16) -> Named
-    ensures { λ r. ⌜ r ≡ unnamedBehind at kind (now (s .entry)) ⌝ }
+fn unnamed_record(s: &[u8], kind: u16, record: NamedRecord) -> Named
+    ensures { λ r. ⌜ r ≡ answered (λ n. None) (behind (symbolName kind) (2 + total (namedRow «record»)) (now (s .entry))) ⌝ }
 {
-    if s.len() < at {
-        return Named::Refused(Refusal::UNEXPECTED_EOF);
-    }
-    match names::parse_symbol_name(s, at, kind) {
+    match record_names::parse_name(s, kind, record) {
         ParsedPart::Value(_, _) => Named::Answer(OptionPart::None),
         ParsedPart::Refused(e) => Named::Refused(e),
     }
@@ -56,7 +60,7 @@ fn unnamed_behind(s: &[u8], at: usize, kind: u16) -> Named
 
 // A reference: records of old kinds have no name.
 fn optional_behind(s: &[u8], at: usize, kind: u16) -> Named
-    ensures { λ r. ⌜ r ≡ optionalBehind at kind (now (s .entry)) ⌝ }
+    ensures { λ r. ⌜ r ≡ answered (λ o. o) (behind (optionalName kind) at (now (s .entry))) ⌝ }
 {
     if s.len() < at {
         return Named::Refused(Refusal::UNEXPECTED_EOF);
@@ -67,7 +71,7 @@ fn optional_behind(s: &[u8], at: usize, kind: u16) -> Named
     }
 }
 
-// A record of a fixed part alone.
+// A record whose fields end at a position, where nothing that is a name stands behind them.
 fn nothing_behind(s: &[u8], at: usize) -> Named
     ensures { λ r. ⌜ r ≡ nothingBehind at (now (s .entry)) ⌝ }
 {
@@ -78,17 +82,25 @@ fn nothing_behind(s: &[u8], at: usize) -> Named
     }
 }
 
+fn bare_record(s: &[u8], record: FixedRecord) -> Named
+    ensures { λ r. ⌜ r ≡ nothingBehind (2 + total (fixedRow «record»)) (now (s .entry)) ⌝ }
+{
+    nothing_behind(s, fixed_records::fields_end(record))
+}
+
 // Compile flags have a version string, which is no name.
 fn compile_name(s: &[u8], kind: u16) -> Named
+    requires { ⌜ 2 ≤ length (now s) ⌝ }
     ensures { λ r. ⌜ r ≡ namedBy (compile kind (now (s .entry)) 2) ⌝ }
 {
     if kind == S_COMPILE3 {
-        return unnamed_behind(s, 24, kind);
+        return unnamed_record(s, kind, NamedRecord::Compile3);
     }
-    unnamed_behind(s, 20, kind)
+    unnamed_record(s, kind, NamedRecord::Compile2)
 }
 
 fn inline_site_name(s: &[u8], kind: u16) -> Named
+    requires { ⌜ 2 ≤ length (now s) ⌝ }
     ensures { λ r. ⌜ r ≡ namedBy (inlineSite kind (now (s .entry)) 2) ⌝ }
 {
     if kind == S_INLINESITE2 {
@@ -156,6 +168,7 @@ fn thunk_name(s: &[u8], kind: u16) -> Named
 
 // The name of a record whose kind was read.
 fn name_by_kind(s: &[u8], kind: u16) -> Named
+    requires { ⌜ 2 ≤ length (now s) ⌝ }
     ensures { λ r. ⌜ r ≡ namedBy (layout (classOf kind) kind (now (s .entry)) 2) ⌝ }
 {
     match constants::class_of(kind) {
@@ -165,39 +178,39 @@ fn name_by_kind(s: &[u8], kind: u16) -> Named
             detail: kind as u64,
         }),
         Class::ScopeEnd => Named::Answer(OptionPart::None),
-        Class::ObjName => named_behind(s, 6, kind),
-        Class::RegisterVariable => unnamed_behind(s, 8, kind),
+        Class::ObjName => named_record(s, kind, NamedRecord::ObjName),
+        Class::RegisterVariable => unnamed_record(s, kind, NamedRecord::RegisterVariable),
         Class::Constant => constant_name(s, kind),
-        Class::UserDefinedType => named_behind(s, 6, kind),
+        Class::UserDefinedType => named_record(s, kind, NamedRecord::UserDefinedType),
         Class::MultiRegisterVariable => register_list_name(s, kind),
-        Class::Data => named_behind(s, 12, kind),
-        Class::Public => named_behind(s, 12, kind),
-        Class::Procedure => named_behind(s, 37, kind),
-        Class::ThreadStorage => named_behind(s, 12, kind),
+        Class::Data => named_record(s, kind, NamedRecord::Data),
+        Class::Public => named_record(s, kind, NamedRecord::Public),
+        Class::Procedure => named_record(s, kind, NamedRecord::Procedure),
+        Class::ThreadStorage => named_record(s, kind, NamedRecord::ThreadStorage),
         Class::CompileFlags => compile_name(s, kind),
-        Class::UsingNamespace => named_behind(s, 2, kind),
+        Class::UsingNamespace => named_record(s, kind, NamedRecord::UsingNamespace),
         Class::ProcedureReference => optional_behind(s, 12, kind),
         Class::DataReference => optional_behind(s, 12, kind),
-        Class::AnnotationReference => named_behind(s, 12, kind),
-        Class::Trampoline => nothing_behind(s, 18),
-        Class::Export => named_behind(s, 6, kind),
-        Class::Local => named_behind(s, 8, kind),
-        Class::BuildInfo => nothing_behind(s, 6),
+        Class::AnnotationReference => named_record(s, kind, NamedRecord::AnnotationReference),
+        Class::Trampoline => bare_record(s, FixedRecord::Trampoline),
+        Class::Export => named_record(s, kind, NamedRecord::Export),
+        Class::Local => named_record(s, kind, NamedRecord::Local),
+        Class::BuildInfo => bare_record(s, FixedRecord::BuildInfo),
         Class::InlineSite => inline_site_name(s, kind),
         Class::InlineSiteEnd => Named::Answer(OptionPart::None),
         Class::ProcedureEnd => Named::Answer(OptionPart::None),
-        Class::Label => named_behind(s, 9, kind),
-        Class::Block => named_behind(s, 20, kind),
-        Class::RegisterRelative => named_behind(s, 12, kind),
+        Class::Label => named_record(s, kind, NamedRecord::Label),
+        Class::Block => named_record(s, kind, NamedRecord::Block),
+        Class::RegisterRelative => named_record(s, kind, NamedRecord::RegisterRelative),
         Class::Thunk => thunk_name(s, kind),
-        Class::SeparatedCode => nothing_behind(s, 30),
+        Class::SeparatedCode => bare_record(s, FixedRecord::SeparatedCode),
     }
 }
 
 pub fn name(s: &[u8]) -> Named
     ensures { λ r. ⌜ r ≡ nameOf (now (s .entry)) ⌝ }
 {
-    if symbol::MAX_RECORD < s.len() {
+    if layouts::MAX_RECORD < s.len() {
         return Named::Refused(Refusal {
             number: 5,
             position: 0,
@@ -208,17 +221,4 @@ pub fn name(s: &[u8]) -> Named
         return Named::Refused(Refusal::UNEXPECTED_EOF);
     }
     name_by_kind(s, common::u16_at(s, 0))
-}
-
-// The part of the record that is its name; the empty part where there is none, or where name refuses.
-pub fn name_bytes(s: &[u8]) -> &[u8]
-    ensures { λ r. ⌜ now r ≡ nameBytes (now (s .entry)) ⌝ }
-{
-    match name(s) {
-        Named::Answer(has) => match has {
-            OptionPart::Some(p) => names::as_bytes(s, p),
-            OptionPart::None => &s[..0],
-        },
-        Named::Refused(_) => &s[..0],
-    }
 }

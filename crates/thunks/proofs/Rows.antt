@@ -8,7 +8,8 @@ use Rattle.common.specs.Bytes.{le}
 use Rattle.common.specs.Reader.{Read, value, refused, runsOut, Reader, done, next, _>>=_, uint}
 use Rattle.common.specs.declared.Refusal.{Refusal}
 use Rattle.common.proofs.Readers.{then-value, then-refused}
-use Rattle.common.proofs.Rows.{Fields, total, filled, fixed, fixed-value, fixed-short}
+use Rattle.common.specs.Row.{Fields, total, filled}
+use Rattle.common.proofs.Rows.{fixed, fixed-value, fixed-short}
 use Rattle.names.specs.Name.{symbolName}
 use Rattle.names.specs.declared.Part.{Part}
 use Rattle.records.specs.declared.ThunkKind.{ThunkKind}

@@ -1,13 +1,20 @@
 // The records of register variables, constants and types.
 //
-// Each function takes a record of its class, kind first, and answers the typed record and the bytes that it took.
-// The arms of a match return: where they met, one more `Decoded` would stand at every step of the proof.
+// The fields of a record are read where it is long enough for them, kind first, so that they start at position 2. A constant is decoded
+// here whole, since its name stands behind a value whose length varies. The arms of a match return: where they met, one more `Decoded`
+// would stand at every step of the proof.
 ghost use mathlib.Core.Path.{_≡_};
+ghost use mathlib.Core.List.{[], _∷_};
+ghost use Prim.Native.Nat.{_≤_};
+ghost use lib.ListN.{length};
+ghost use Rattle.common.specs.Row.{filled};
+ghost use Rattle.records.specs.declared.SymbolData.the-variants.{RegisterVariable, UserDefinedType};
 ghost use Rattle.records.specs.Answer.{decodedOf};
-ghost use Rattle.variables.specs.Variable.{registerVariable, constant, userDefinedType};
+ghost use Rattle.variables.specs.Variable.{registerVariableOf, constant, userDefinedTypeOf};
 use common::Refusal;
 use constants::S_MANCONSTANT;
 use names::ParsedPart;
+use names::Part;
 use records::ConstantSymbol;
 use records::Decoded;
 use records::RegisterVariableSymbol;
@@ -15,22 +22,14 @@ use records::SymbolData;
 use records::UserDefinedTypeSymbol;
 use variant::ParsedVariant;
 
-pub fn parse_register_variable(s: &[u8], kind: u16) -> Decoded
-    ensures { λ r. ⌜ decodedOf r ≡ registerVariable kind (now (s .entry)) 2 ⌝ }
+pub fn register_variable(s: &[u8], name: Part) -> RegisterVariableSymbol
+    requires { ⌜ 8 ≤ length (now s) ⌝ }
+    ensures { λ r. ⌜ RegisterVariable r ≡ filled (4 ∷ 2 ∷ []) registerVariableOf (now (s .entry)) 2 name ⌝ }
 {
-    if s.len() < 8 {
-        return Decoded::Refused(Refusal::UNEXPECTED_EOF);
-    }
-    match names::parse_symbol_name(s, 8, kind) {
-        ParsedPart::Value(name, next) => {
-            let data = RegisterVariableSymbol {
-                type_index: common::u32_at(s, 2),
-                register: common::u16_at(s, 6),
-                name,
-            };
-            return Decoded::Record(SymbolData::RegisterVariable(data), next);
-        }
-        ParsedPart::Refused(e) => return Decoded::Refused(e),
+    RegisterVariableSymbol {
+        type_index: common::u32_at(s, 2),
+        register: common::u16_at(s, 6),
+        name,
     }
 }
 
@@ -57,20 +56,12 @@ pub fn parse_constant(s: &[u8], kind: u16) -> Decoded
     }
 }
 
-pub fn parse_user_defined_type(s: &[u8], kind: u16) -> Decoded
-    ensures { λ r. ⌜ decodedOf r ≡ userDefinedType kind (now (s .entry)) 2 ⌝ }
+pub fn user_defined_type(s: &[u8], name: Part) -> UserDefinedTypeSymbol
+    requires { ⌜ 6 ≤ length (now s) ⌝ }
+    ensures { λ r. ⌜ UserDefinedType r ≡ filled (4 ∷ []) userDefinedTypeOf (now (s .entry)) 2 name ⌝ }
 {
-    if s.len() < 6 {
-        return Decoded::Refused(Refusal::UNEXPECTED_EOF);
-    }
-    match names::parse_symbol_name(s, 6, kind) {
-        ParsedPart::Value(name, next) => {
-            let data = UserDefinedTypeSymbol {
-                type_index: common::u32_at(s, 2),
-                name,
-            };
-            return Decoded::Record(SymbolData::UserDefinedType(data), next);
-        }
-        ParsedPart::Refused(e) => return Decoded::Refused(e),
+    UserDefinedTypeSymbol {
+        type_index: common::u32_at(s, 2),
+        name,
     }
 }

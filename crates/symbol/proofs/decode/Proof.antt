@@ -2,7 +2,7 @@
 -- Assumes nothing.
 use borrow.Author.Needs.{needs}
 use mathlib.Core.Path.{_∙_}
-use Rattle.symbol.proofs.Decoding.{decode-long, decode-short, decode-kind}
+use Rattle.layouts.proofs.Decoding.{decode-long, decode-short, decode-kind}
 use Rattle.symbol.proofs.decode.Statement.{statement}
 use Rattle.symbol.proofs.decode.Tie as tie
 

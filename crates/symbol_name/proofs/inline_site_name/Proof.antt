@@ -13,14 +13,14 @@ nothing-behind-requires c κs = search needs
 
 returns : tie.Need-returns
 unfolding inlineSite
-returns c = rw (eq-eqb _ 0x115d (c .before .if1 .taken)) (c .nothing-behind .ensures ∙ counted-site-name _)
+returns c = rw (eq-eqb _ 0x115d (c .before .if1 .taken)) (c .nothing-behind .ensures ∙ counted-site-name _ (c .before .before .before .pre))
 
 nothing-behind-requires-2 : tie.Need-nothing-behind-requires-2
 nothing-behind-requires-2 c κs = search needs
 
 returns-2 : tie.Need-returns-2
 unfolding inlineSite
-returns-2 c = rw (ne-eqb _ 0x115d (c .before .if1 .left)) (c .nothing-behind2 .ensures ∙ plain-site-name _)
+returns-2 c = rw (ne-eqb _ 0x115d (c .before .if1 .left)) (c .nothing-behind2 .ensures ∙ plain-site-name _ (c .before .before .before .pre))
 
 pub inline-site-name-spec : {M : Type 1} → statement M
 inline-site-name-spec = tie.close (tie.spec nothing-behind-requires returns nothing-behind-requires-2 returns-2)

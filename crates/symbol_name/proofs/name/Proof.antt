@@ -2,7 +2,7 @@
 -- Assumes nothing.
 use borrow.Author.Needs.{needs}
 use mathlib.Core.Path.{ap, _∙_}
-use Rattle.symbol.proofs.Decoding.{decode-long, decode-short, decode-kind}
+use Rattle.layouts.proofs.Decoding.{decode-long, decode-short, decode-kind}
 use Rattle.symbol_name.specs.Name.{namedBy, nameOf}
 use Rattle.symbol_name.proofs.name.Statement.{statement}
 use Rattle.symbol_name.proofs.name.Tie as tie

@@ -4,13 +4,14 @@ use borrow.Author.Needs.{needs}
 use borrow.Author.Tests.{lt-ltb, le-ltb}
 use mathlib.Core.Path.{sym, ap, _∙_}
 use Rattle.references.specs.Answer.{optionalOf}
+use Rattle.common.specs.Row.{behind}
 use Rattle.records.specs.declared.OptionPart.{OptionPart}
-use Rattle.symbol_name.specs.Behind.{answered, optionalBehind}
+use Rattle.symbol_name.specs.Behind.{answered}
 use Rattle.symbol_name.proofs.optional_behind.Statement.{statement}
 use Rattle.symbol_name.proofs.optional_behind.Tie as tie
 
 returns : tie.Need-returns
-unfolding optionalBehind
+unfolding behind
 returns c = rw (lt-ltb _ _ (c .if1 .taken))
 
 parse-optional-name-requires : tie.Need-parse-optional-name-requires
@@ -23,13 +24,13 @@ enum-known-e : tie.Need-enum-known-e
 enum-known-e c = search needs
 
 returns-2 : tie.Need-returns-2
-unfolding optionalBehind
+unfolding behind
 returns-2 c =
     let p = c .before .before .before in
     rw (le-ltb _ _ (p .before .if1 .left)) (sym (ap (answered (λ (o : OptionPart). o)) (sym (p .parse-optional-name .ensures) ∙ ap optionalOf (c .before .name .given .1))))
 
 returns-3 : tie.Need-returns-3
-unfolding optionalBehind
+unfolding behind
 returns-3 c =
     let p = c .before .before .before in
     rw (le-ltb _ _ (p .before .if1 .left)) (sym (ap (answered (λ (o : OptionPart). o)) (sym (p .parse-optional-name .ensures) ∙ ap optionalOf (c .before .e .given .1))))

@@ -1,0 +1,21 @@
+-- `symbol_name::unnamed_record` meets its contract.
+-- Assumes nothing.
+use borrow.Author.Needs.{needs}
+use mathlib.Core.Path.{sym, ap, _∙_}
+use Rattle.names.specs.Answer.{partOf}
+use Rattle.names.specs.declared.Part.{Part}
+use Rattle.records.specs.declared.OptionPart.the-variants.{None}
+use Rattle.symbol_name.specs.Behind.{answered}
+use Rattle.symbol_name.proofs.unnamed_record.Statement.{statement}
+use Rattle.symbol_name.proofs.unnamed_record.Tie as tie
+
+returns : tie.Need-returns
+returns c = ap (answered (λ (n : Part). None)) (sym (ap partOf (c .enum-told .given .1)) ∙ c .before .before .parse-name .ensures)
+
+returns-2 : tie.Need-returns-2
+returns-2 c = ap (answered (λ (n : Part). None)) (sym (ap partOf (c .before .e .given .1)) ∙ c .before .before .before .parse-name .ensures)
+
+pub unnamed-record-spec : {M : Type 1} → statement M
+unnamed-record-spec =
+    tie.close
+    (tie.spec (λ c κs. search needs) (λ c. search needs) (λ c. search needs) returns returns-2)
