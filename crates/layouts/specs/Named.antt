@@ -36,7 +36,7 @@ namedLayout Label kind = label kind
 namedLayout Block kind = block kind
 namedLayout RegisterRelative kind = registerRelative kind
 
--- the record that is made of them and the name
+-- the record that is made of its fields and the name
 abbrev pub namedOf : (r : NamedRecord) → ℕ → Fields (namedRow r) (Part → SymbolData)
 namedOf ObjName kind = objNameOf
 namedOf RegisterVariable kind = registerVariableOf

@@ -82,6 +82,7 @@ fn nothing_behind(s: &[u8], at: usize) -> Named
     }
 }
 
+// A record of fixed fields alone.
 fn bare_record(s: &[u8], record: FixedRecord) -> Named
     ensures { λ r. ⌜ r ≡ nothingBehind (2 + total (fixedRow «record»)) (now (s .entry)) ⌝ }
 {
