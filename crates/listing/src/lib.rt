@@ -1,12 +1,8 @@
 // The listing of a stream: for each record a line with its index, its kind and its name.
 //
-// No contract can say what is printed. How the bytes of a name are shown can be said without printing: see `shown` and `show`.
+// No contract can say what is printed. How the bytes of a name are shown can be said without printing: see crate shown.
 ghost use mathlib.Core.Path.{_≡_};
-ghost use mathlib.Core.List.{map};
-ghost use Prim.Native.Nat.{_-_, _≤_, min};
-ghost use lib.ListN.{length, take, drop};
-ghost use Rattle.io.specs.Counts.{Counts};
-ghost use Rattle.listing.specs.Shown.{shownByte};
+ghost use lib.ListN.{length};
 use iter::Next;
 use records::OptionPart;
 use symbol_name::Named;
@@ -21,37 +17,12 @@ pub fn stream_room() -> [u8; MAX_LISTED + 1]
     [0; MAX_LISTED + 1]
 }
 
-fn shown(b: u8) -> u8
-    ensures { λ r. ⌜ r ≡ shownByte b ⌝ }
-{
-    if (0x21 <= b) & (b <= 0x7e) { b } else { b'?' }
-}
-
-// Puts the bytes of a name from a position on, as they are shown, into a piece, as many as it holds, and answers how many.
-fn show(name: &[u8], from: usize, piece: &mut [u8]) -> usize
-    requires { ⌜ from ≤ length (now name) ⌝ }
-    ensures { λ r. ⌜ Counts r (now (piece .exit)) ⌝ }
-    ensures { λ r. ⌜ r ≡ min (length (now (piece .exit))) (length (now (name .entry)) - from) ⌝ }
-    ensures { λ r. ⌜ take r (now (piece .exit)) ≡ map shownByte (take r (drop from (now (name .entry)))) ⌝ }
-{
-    let mut n = name.len() - from;
-    if piece.len() < n {
-        n = piece.len();
-    }
-    let mut i = 0;
-    while i < n {
-        piece[i] = shown(name[from + i]);
-        i += 1;
-    }
-    n
-}
-
 fn print_shown(name: &[u8]) {
     let mut space = [0u8; 64];
     let piece: &mut [u8] = &mut space;
     let mut at = 0;
     while at < name.len() {
-        let n = show(name, at, piece);
+        let n = shown::show(name, at, piece);
         io::write_all(1, &piece[..n]);
         at += n;
     }

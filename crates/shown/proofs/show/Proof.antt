@@ -1,4 +1,4 @@
--- `listing::show` meets its contract. The loop's invariant: the bytes passed stand in the piece as they are shown. The measure is the
+-- `shown::show` meets its contract. The loop's invariant: the bytes passed stand in the piece as they are shown. The measure is the
 -- number of bytes that are left.
 -- Assumes nothing.
 use borrow.Author.Needs.{needs}
@@ -9,10 +9,10 @@ use Prim.Native.Nat.{_≤_, _-_, min}
 use native.Mathlib.Omega.{arith}
 use lib.ListN.{length, take, drop}
 use lib.Seq.{length-take-le}
-use Rattle.listing.specs.Shown.{shownByte}
-use Rattle.listing.proofs.Pieces.{one-more}
-use Rattle.listing.proofs.show.Statement.{statement}
-use Rattle.listing.proofs.show.Tie as tie
+use Rattle.shown.specs.Shown.{shownByte}
+use Rattle.shown.proofs.Pieces.{one-more}
+use Rattle.shown.proofs.show.Statement.{statement}
+use Rattle.shown.proofs.show.Tie as tie
 
 abbrev Inv-loop : tie.InvT-loop
 Inv-loop name from piece₀ n i₀ piece i =

@@ -1,7 +1,7 @@
--- `listing::shown` meets its contract.
+-- `shown::shown` meets its contract.
 -- Assumes nothing.
-use Rattle.listing.proofs.shown.Statement.{statement}
-use Rattle.listing.proofs.shown.Tie as tie
+use Rattle.shown.proofs.shown.Statement.{statement}
+use Rattle.shown.proofs.shown.Tie as tie
 
 returns : tie.Need-returns
 returns c = rw (c .if1 .taken)

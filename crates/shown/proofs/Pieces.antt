@@ -7,7 +7,7 @@ use native.Mathlib.Numerals.{add-one}
 use native.Mathlib.Omega.{arith}
 use lib.ListN.{length, take, drop, getD, set, length-drop}
 use lib.Seq.{take-suc, take-suc-set, getD-drop}
-use Rattle.listing.specs.Shown.{shownByte}
+use Rattle.shown.specs.Shown.{shownByte}
 
 pub one-more :
     (name piece : List ℕ) (from i b : ℕ) → from + i < length name → i < length piece →
