@@ -22,7 +22,7 @@ use Rattle.walk.specs.Walk.{walkOf}
 use Rattle.walk.proofs.Walks.{walkAt}
 use Rattle.jump.specs.Jump.{jumpFrom, jumpOf}
 use Rattle.climb.specs.Climb.{reachedBy, climbOf}
-use Rattle.climb.specs.declared.Opener.the-variants.{Parent}
+use Rattle.opener.specs.declared.Opener.the-variants.{Parent}
 use Rattle.check_nesting.specs.Check.{Open}
 use Rattle.agreement.specs.Agreement.{Some, Begins, OpenerBegins, BothAnswer, ClimbsThem, Agreement, Condition3, answersOf}
 use Rattle.agreement.proofs.Nest.{bytesAt, openAt, Nest, done, passes, opens, closes, check-nests}

@@ -18,8 +18,9 @@ use Rattle.kind.specs.Raw.{nestingRoleOf}
 use Rattle.links.specs.Links.{linksOf}
 use Rattle.links.specs.declared.Links.the-variants.{Read}
 use Rattle.check_nesting.specs.Check.{Open, innerIndex}
-use Rattle.climb.specs.declared.Opener.the-variants.{Parent}
-use Rattle.climb.specs.Climb.{reachedBy, openerOn, openerOf, climbBy, climbOn, climbOf}
+use Rattle.opener.specs.declared.Opener.the-variants.{Parent}
+use Rattle.opener.specs.Opener.{openerOn, openerOf}
+use Rattle.climb.specs.Climb.{reachedBy, climbBy, climbOn, climbOf}
 use Rattle.climb.proofs.Climbs.{climb-top, climb-below}
 use Rattle.agreement.specs.Agreement.{reversed}
 use Rattle.agreement.proofs.Nest.{bytesAt}

@@ -28,7 +28,8 @@ use Rattle.check_nesting.specs.Check as C
 use Rattle.check_nesting.specs.declared.Checked.the-variants.{Good}
 use Rattle.finding.specs.Finding.{foundBy, refusedBy}
 use Rattle.walk.specs.Walk.{turnOf, walkOn, walkFrom, walkOf}
-use Rattle.climb.specs.Climb.{reachedBy, haltedBy, openerOf, climbOn, climbOf}
+use Rattle.opener.specs.Opener.{openerOf}
+use Rattle.climb.specs.Climb.{reachedBy, haltedBy, climbOn, climbOf}
 use Rattle.hop.specs.Hop.{hopOf, landOf}
 use Rattle.jump.specs.Jump.{yieldedAt, jumpBody, jumpBy, jumpFrom, jumpOf}
 use Rattle.agreement.specs.Agreement.{Begins, OpenerBegins}

@@ -5,7 +5,8 @@ use native.Mathlib.Omega.{arith}
 use Prim.Native.Nat.{_-_}
 use mathlib.Core.Path.{sym, _∙_}
 use Rattle.chain.proofs.Laws.{pushed-is}
-use Rattle.climb.proofs.Climbs.{opener-read, Climbing, climbing-first, at-top, at-full, at-above, at-missing, going-up}
+use Rattle.opener.proofs.Openers.{opener-read}
+use Rattle.climb.proofs.Climbs.{Climbing, climbing-first, at-top, at-full, at-above, at-missing, going-up}
 use Rattle.climb.proofs.climb_from.Statement.{statement}
 use Rattle.climb.proofs.climb_from.Tie as tie
 

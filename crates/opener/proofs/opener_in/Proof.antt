@@ -1,10 +1,10 @@
--- `climb::opener_in` meets its contract.
+-- `opener::opener_in` meets its contract.
 -- Assumes nothing.
 use borrow.Author.Needs.{needs}
 use mathlib.Core.Path.{sym, _∙_, ap}
-use Rattle.climb.specs.Climb.{openerBy}
-use Rattle.climb.proofs.opener_in.Statement.{statement}
-use Rattle.climb.proofs.opener_in.Tie as tie
+use Rattle.opener.specs.Opener.{openerBy}
+use Rattle.opener.proofs.opener_in.Statement.{statement}
+use Rattle.opener.proofs.opener_in.Tie as tie
 
 links-of-requires : tie.Need-links-of-requires
 links-of-requires c κs = search needs

@@ -1,4 +1,4 @@
--- `climb::opener_at` meets its contract.
+-- `opener::opener_at` meets its contract.
 -- Assumes nothing.
 use borrow.Author.Needs.{needs}
 use native.Mathlib.Omega.{arith}
@@ -7,10 +7,10 @@ use borrow.Author.Tests.{eq-eqb, ne-eqb}
 use Rattle.iter.specs.Step.{scanOf, stepOf}
 use Rattle.iter.specs.declared.Next.the-variants.{Record}
 use Rattle.iter.proofs.Reading.{step-fits}
-use Rattle.climb.specs.Climb.{openerOf}
-use Rattle.climb.proofs.Climbs.{opener-record}
-use Rattle.climb.proofs.opener_at.Statement.{statement}
-use Rattle.climb.proofs.opener_at.Tie as tie
+use Rattle.opener.specs.Opener.{openerOf}
+use Rattle.opener.proofs.Openers.{opener-record}
+use Rattle.opener.proofs.opener_at.Statement.{statement}
+use Rattle.opener.proofs.opener_at.Tie as tie
 
 -- the record that the step yielded
 stepped : (c : tie.After-known-told2) →
