@@ -7,7 +7,7 @@ use Rattle.records.specs.declared.OptionPart.the-variants.{None, Some}
 use Rattle.records.specs.declared.SymbolData.{SymbolData}
 use Rattle.field_words.specs.Fields.{truth}
 use Rattle.field_words.specs.Record.{recordWords}
-use Rattle.registers.specs.declared.RegisterEntry.{RegisterEntry}
+use Rattle.entries.specs.declared.RegisterEntry.{RegisterEntry}
 use Rattle.symbol_name.specs.declared.Named.{Named}
 use Rattle.symbol_name.specs.declared.Named.the-variants as M
 use Rattle.iter.specs.declared.Next.{Next}

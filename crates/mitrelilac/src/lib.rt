@@ -17,7 +17,7 @@ use check_nesting::Checked;
 use iter::Next;
 use records::Decoded;
 use records::OptionPart;
-use registers::ParsedEntry;
+use entries::ParsedEntry;
 use symbol_name::Named;
 
 // One step from a position. End: 0 and the position. A record: 1, its index, where its bytes start, how many they are, and the next

@@ -11,8 +11,9 @@ use lib.Dec.{leb}
 use Rattle.common.specs.Bytes.{le}
 use Rattle.common.specs.Reader.{Read, value, refused, runsOut, refusal, Reader, _>>=_, uint}
 use Rattle.common.proofs.Readers.{uint-value, uint-short, then-value, then-refused}
-use Rattle.registers.specs.Registers.{registerCount, entryAt}
-use Rattle.registers.specs.declared.RegisterEntry.{RegisterEntry}
+use Rattle.entries.specs.Entries.{entryAt}
+use Rattle.registers.specs.Registers.{registerCount}
+use Rattle.entries.specs.declared.RegisterEntry.{RegisterEntry}
 use Rattle.common.specs.declared.Refusal.{Refusal}
 use Rattle.records.specs.declared.SymbolData.{SymbolData}
 use Rattle.kind.specs.Raw.{rawKind}

@@ -7,8 +7,9 @@ use lib.Dec.{ltb, eqb}
 use Rattle.common.specs.Reader.{Read, value, refused, refusal, Reader, _>>=_, refuse, u32}
 use Rattle.constants.specs.Kind.{classOf, classNumber}
 use Rattle.records.specs.declared.SymbolData.{SymbolData}
-use Rattle.registers.specs.Registers.{registerCount, entryAt}
-use Rattle.registers.specs.declared.RegisterEntry.{RegisterEntry}
+use Rattle.entries.specs.Entries.{entryAt}
+use Rattle.registers.specs.Registers.{registerCount}
+use Rattle.entries.specs.declared.RegisterEntry.{RegisterEntry}
 use Rattle.kind.specs.Raw.{rawKind}
 use Rattle.layouts.specs.Decode.{decode}
 

@@ -1,12 +1,12 @@
 // An entry of a register list, on demand: pdb keeps a Vec of them.
 ghost use mathlib.Core.Path.{_≡_};
-ghost use Rattle.registers.specs.Answer.{entryOf};
+ghost use Rattle.entries.specs.Answer.{entryOf};
 ghost use Rattle.register_entry.specs.Entry.{isList, countedEntry, listEntry, registerEntry};
 ghost use Rattle.common.specs.Reader.{refused, refusal};
 use common::Refusal;
 use constants::S_MANYREG2;
 use constants::S_MANYREG2_ST;
-use registers::ParsedEntry;
+use entries::ParsedEntry;
 use symbol_name::Named;
 
 fn nothing_there() -> ParsedEntry
@@ -30,7 +30,7 @@ fn counted_entry(s: &[u8], first: usize, kind: u16, count: u16, k: usize) -> Par
     ensures { λ r. ⌜ entryOf r ≡ countedEntry kind count k (now (s .entry)) first ⌝ }
 {
     if k < count as usize {
-        registers::entry_of_list(s, first, kind, k as u16)
+        entries::entry_of_list(s, first, kind, k as u16)
     } else {
         nothing_there()
     }

@@ -13,7 +13,8 @@ use Rattle.common.specs.Reader.{Read, value, refused, runsOut, _>>=_, uint}
 use Rattle.common.specs.declared.Refusal.{Refusal}
 use Rattle.common.proofs.Readers.{uint-value, uint-short, then-value, then-refused}
 use Rattle.records.specs.declared.SymbolData.{SymbolData}
-use Rattle.registers.specs.Registers.{longList, skip, registerCount, multiRegisterOf, registerList, multiRegisterVariable}
+use Rattle.entries.specs.Entries.{skip}
+use Rattle.registers.specs.Registers.{longList, registerCount, multiRegisterOf, registerList, multiRegisterVariable}
 
 -- the list, behind its count
 module _ (kind type count : ℕ) (s : List ℕ) (first : ℕ) where

@@ -11,7 +11,8 @@ use Rattle.common.specs.Row.{behind}
 use Rattle.common.proofs.Rows.{tailed}
 use Rattle.records.specs.declared.OptionPart.the-variants.{None}
 use Rattle.references.specs.Reference.{dataReference, dataReferenceOf, optionalName, procedureReference, procedureReferenceOf, reference}
-use Rattle.registers.specs.Registers.{skip, registerList}
+use Rattle.entries.specs.Entries.{skip}
+use Rattle.registers.specs.Registers.{registerList}
 use Rattle.registers.proofs.Lists.{list-value, list-refused}
 use Rattle.inline_sites.specs.Inline.{countedSite, countedSiteOf, plainSite, plainSiteOf, rest}
 use Rattle.inline_sites.proofs.Rows.{counted-row, plain-row}

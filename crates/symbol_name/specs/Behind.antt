@@ -7,7 +7,7 @@ use lib.Dec.{ltb}
 use Rattle.common.specs.Reader.{Read, value, refused, runsOut}
 use Rattle.records.specs.declared.OptionPart.{OptionPart}
 use Rattle.records.specs.declared.OptionPart.the-variants.{None}
-use Rattle.registers.specs.Registers.{skip}
+use Rattle.entries.specs.Entries.{skip}
 use Rattle.symbol_name.specs.declared.Named.{Named}
 use Rattle.symbol_name.specs.declared.Named.the-variants as N
 

@@ -28,7 +28,7 @@ use names::ParsedPart;
 use record_names::NamedRecord;
 use records::OptionPart;
 use references::ParsedOptionPart;
-use registers::Skipped;
+use entries::Skipped;
 use thunks::ParsedThunkKind;
 use variant::ParsedVariant;
 
@@ -114,7 +114,7 @@ fn inline_site_name(s: &[u8], kind: u16) -> Named
 fn entries_behind(s: &[u8], first: usize, kind: u16, count: u16) -> Named
     ensures { λ r. ⌜ r ≡ entriesBehind first kind count (now (s .entry)) ⌝ }
 {
-    match registers::skip_entries(s, first, kind, count) {
+    match entries::skip_entries(s, first, kind, count) {
         Skipped::At(_) => Named::Answer(OptionPart::None),
         Skipped::Refused(e) => Named::Refused(e),
     }

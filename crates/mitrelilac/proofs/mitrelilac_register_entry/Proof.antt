@@ -2,7 +2,7 @@
 -- Assumes nothing.
 use borrow.Author.Needs.{needs}
 use mathlib.Core.Path.{refl, sym, _∙_, ap}
-use Rattle.registers.specs.Answer.{entryOf}
+use Rattle.entries.specs.Answer.{entryOf}
 use Rattle.mitrelilac.specs.Replies.{entryReply}
 use Rattle.mitrelilac.proofs.Replies.{replied-as}
 use Rattle.mitrelilac.proofs.mitrelilac_register_entry.Statement.{statement}

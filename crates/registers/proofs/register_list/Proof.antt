@@ -2,7 +2,7 @@
 -- Assumes nothing.
 use borrow.Author.Needs.{needs}
 use mathlib.Core.Path.{sym, ap, _∙_}
-use Rattle.registers.specs.Answer.{skippedOf}
+use Rattle.entries.specs.Answer.{skippedOf}
 use Rattle.registers.proofs.Lists.{list-value, list-refused}
 use Rattle.registers.proofs.register_list.Statement.{statement}
 use Rattle.registers.proofs.register_list.Tie as tie

@@ -3,7 +3,7 @@
 use borrow.Author.Needs.{needs}
 use mathlib.Core.Path.{sym, ap, _∙_}
 use Rattle.records.specs.declared.OptionPart.the-variants.{None}
-use Rattle.registers.specs.Answer.{skippedOf}
+use Rattle.entries.specs.Answer.{skippedOf}
 use Rattle.symbol_name.specs.Behind.{answered, entriesBehind}
 use Rattle.symbol_name.proofs.entries_behind.Statement.{statement}
 use Rattle.symbol_name.proofs.entries_behind.Tie as tie

@@ -1,10 +1,10 @@
 -- What the answers of reading and of passing entries say: the entry and the position after it, or the position alone, or the refusal.
 use Rattle.common.specs.Reader.{Read, value, refused}
-use Rattle.registers.specs.declared.RegisterEntry.{RegisterEntry}
-use Rattle.registers.specs.declared.ParsedEntry.{ParsedEntry}
-use Rattle.registers.specs.declared.ParsedEntry.the-variants as E
-use Rattle.registers.specs.declared.Skipped.{Skipped}
-use Rattle.registers.specs.declared.Skipped.the-variants as S
+use Rattle.entries.specs.declared.RegisterEntry.{RegisterEntry}
+use Rattle.entries.specs.declared.ParsedEntry.{ParsedEntry}
+use Rattle.entries.specs.declared.ParsedEntry.the-variants as E
+use Rattle.entries.specs.declared.Skipped.{Skipped}
+use Rattle.entries.specs.declared.Skipped.the-variants as S
 
 abbrev pub entryOf : ParsedEntry → Read RegisterEntry
 entryOf (E.Value e to) = value e to

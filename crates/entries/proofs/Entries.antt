@@ -16,8 +16,8 @@ use Rattle.common.proofs.Readers.{room, no-room, then-value, then-refused}
 use Rattle.common.proofs.Rows.{tailed, tailed-value, tailed-refused, tailed-short}
 use Rattle.names.specs.Name.{symbolName}
 use Rattle.names.specs.declared.Part.{Part}
-use Rattle.registers.specs.Registers.{registerEntry, entry, skip, entryAt}
-use Rattle.registers.specs.declared.RegisterEntry.{RegisterEntry}
+use Rattle.entries.specs.Entries.{registerEntry, entry, skip, entryAt}
+use Rattle.entries.specs.declared.RegisterEntry.{RegisterEntry}
 
 -- an entry as a row of widths
 abbrev entryRow : List ℕ

@@ -1,13 +1,13 @@
--- `registers::skip_entries` meets its contract.
+-- `entries::skip_entries` meets its contract.
 -- Assumes nothing.
 use borrow.Author.Needs.{needs}
 use Prim.Native.Nat.{_≤_}
 use mathlib.Core.Path.{_≡_, sym, ap, _∙_}
-use Rattle.registers.specs.Registers.{skip}
-use Rattle.registers.specs.Answer.{entryOf}
-use Rattle.registers.proofs.Entries.{skip-none, skip-more, skip-refused}
-use Rattle.registers.proofs.skip_entries.Statement.{statement}
-use Rattle.registers.proofs.skip_entries.Tie as tie
+use Rattle.entries.specs.Entries.{skip}
+use Rattle.entries.specs.Answer.{entryOf}
+use Rattle.entries.proofs.Entries.{skip-none, skip-more, skip-refused}
+use Rattle.entries.proofs.skip_entries.Statement.{statement}
+use Rattle.entries.proofs.skip_entries.Tie as tie
 
 abbrev Inv-loop : tie.InvT-loop
 Inv-loop s at kind n to₀ left₀ to left = (left ≤ n) × (skip kind left s to ≡ skip kind n s at)

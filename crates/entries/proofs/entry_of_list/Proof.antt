@@ -1,11 +1,11 @@
--- `registers::entry_of_list` meets its contract.
+-- `entries::entry_of_list` meets its contract.
 -- Assumes nothing.
 use borrow.Author.Needs.{needs}
 use mathlib.Core.Path.{sym, ap, _∙_}
-use Rattle.registers.specs.Answer.{skippedOf}
-use Rattle.registers.proofs.Entries.{entry-behind, entry-not-reached}
-use Rattle.registers.proofs.entry_of_list.Statement.{statement}
-use Rattle.registers.proofs.entry_of_list.Tie as tie
+use Rattle.entries.specs.Answer.{skippedOf}
+use Rattle.entries.proofs.Entries.{entry-behind, entry-not-reached}
+use Rattle.entries.proofs.entry_of_list.Statement.{statement}
+use Rattle.entries.proofs.entry_of_list.Tie as tie
 
 skip-entries-requires : tie.Need-skip-entries-requires
 skip-entries-requires c κs = search needs

@@ -1,13 +1,13 @@
--- `registers::parse_entry` meets its contract.
+-- `entries::parse_entry` meets its contract.
 -- Assumes nothing.
 use borrow.Author.Needs.{needs}
 use mathlib.Core.Path.{sym, ap, _∙_}
 use denote.Ref.{now}
 use native.Mathlib.Omega.{arith}
 use Rattle.names.specs.Answer.{partOf}
-use Rattle.registers.proofs.Entries.{entry-room, entry-value, entry-refused, entry-short}
-use Rattle.registers.proofs.parse_entry.Statement.{statement}
-use Rattle.registers.proofs.parse_entry.Tie as tie
+use Rattle.entries.proofs.Entries.{entry-room, entry-value, entry-refused, entry-short}
+use Rattle.entries.proofs.parse_entry.Statement.{statement}
+use Rattle.entries.proofs.parse_entry.Tie as tie
 
 has-room-requires : tie.Need-has-room-requires
 has-room-requires c κs = search needs
