@@ -14,10 +14,10 @@ ghost use Rattle.climb.specs.Climb.{climbOf};
 ghost use Rattle.reply.specs.Reply.{Replied};
 ghost use Rattle.mitrelilac.specs.Replies.{stepReply, kindReply, decodeReply, nameReply, entryReply, checkReply, findingReply, ascentReply};
 use check_nesting::Checked;
+use entries::ParsedEntry;
 use iter::Next;
 use records::Decoded;
 use records::OptionPart;
-use entries::ParsedEntry;
 use symbol_name::Named;
 
 // One step from a position. End: 0 and the position. A record: 1, its index, where its bytes start, how many they are, and the next

@@ -23,12 +23,12 @@ use constants::S_COMPILE3;
 use constants::S_INLINESITE2;
 use constants::S_MANYREG2;
 use constants::S_MANYREG2_ST;
+use entries::Skipped;
 use fixed_records::FixedRecord;
 use names::ParsedPart;
 use record_names::NamedRecord;
 use records::OptionPart;
 use references::ParsedOptionPart;
-use entries::Skipped;
 use thunks::ParsedThunkKind;
 use variant::ParsedVariant;
 
