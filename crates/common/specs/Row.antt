@@ -1,4 +1,5 @@
--- Numbers one after another, as the fixed fields of a record are.
+-- Numbers one after another, as the fixed fields of a record are. Contracts of functions that read fields cite this, no operation's does:
+-- nothing that a reader must believe.
 use Prim.Native.Nat.{ℕ, _+_}
 use mathlib.Core.List.{List, [], _∷_}
 use mathlib.Core.Bool.{cond}
