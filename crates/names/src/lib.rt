@@ -3,8 +3,9 @@
 // A name is kept as where it starts and how long it is; `as_bytes` gives the bytes themselves, out of the lent slice.
 ghost use mathlib.Core.Path.{_≡_};
 ghost use lib.ListN.{drop};
-ghost use Rattle.names.specs.Name.{run, bytes, cstring, pascal, symbolName, bytesOf};
+ghost use Rattle.names.specs.Name.{run, bytes, cstring, pascal, symbolName};
 ghost use Rattle.names.specs.Answer.{partOf};
+ghost use Rattle.names.specs.Lent.{IsPart};
 use common::Refusal;
 
 // Some of the lent bytes.
@@ -83,7 +84,7 @@ pub fn parse_symbol_name(s: &[u8], at: usize, kind: u16) -> ParsedPart
 
 // The bytes of a part, and none where it does not lie within the lent bytes.
 pub fn as_bytes(s: &[u8], p: Part) -> &[u8]
-    ensures { λ r. ⌜ now r ≡ bytesOf (now (s .entry)) p ⌝ }
+    ensures { λ r. ⌜ IsPart (s .entry) p r ⌝ }
 {
     let start = p.start;
     let len = p.len;

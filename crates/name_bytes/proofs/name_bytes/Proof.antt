@@ -1,11 +1,6 @@
 -- `name_bytes::name_bytes` meets its contract.
 -- Assumes nothing.
 use borrow.Author.Needs.{needs}
-use denote.Ref.{now}
-use mathlib.Core.Path.{sym, ap, _∙_}
-use Rattle.records.specs.declared.OptionPart.{OptionPart}
-use Rattle.symbol_name.specs.declared.Named.the-variants.{Answer}
-use Rattle.name_bytes.specs.Bytes.{bytesNamed, nameBytes}
 use Rattle.name_bytes.proofs.name_bytes.Statement.{statement}
 use Rattle.name_bytes.proofs.name_bytes.Tie as tie
 
@@ -34,23 +29,18 @@ slice-aggregate-result-2 : tie.Need-slice-aggregate-result-2
 slice-aggregate-result-2 c = search needs
 
 returns : tie.Need-returns
-unfolding nameBytes
 returns c =
     let h = c .before .before in
     let n = h .before .before .before in
-    let s = now (n .before .before .before .before .args .s) in
-    c .as-bytes .ensures ∙ ap (λ (o : OptionPart). bytesNamed s (Answer o)) (sym (h .has2 .given .1)) ∙ ap (bytesNamed s) (sym (n .has .given .1) ∙ n .before .before .name .ensures)
+    rw (← (n .before .before .name .ensures), n .has .given .1, h .has2 .given .1) (c .as-bytes .ensures)
 
 returns-2 : tie.Need-returns-2
-unfolding nameBytes
 returns-2 c =
     let n = c .before .before .before .before in
-    let s = now (n .before .before .before .before .args .s) in
-    ap (λ (o : OptionPart). bytesNamed s (Answer o)) (sym (c .before .enum-told .given .1)) ∙ ap (bytesNamed s) (sym (n .has .given .1) ∙ n .before .before .name .ensures)
+    rw (← (n .before .before .name .ensures), n .has .given .1, c .before .enum-told .given .1)
 
 returns-3 : tie.Need-returns-3
-unfolding nameBytes
-returns-3 c = ap (bytesNamed _) (sym (c .before .enum-told2 .given .1) ∙ c .before .before .before .name .ensures)
+returns-3 c = rw (← (c .before .before .before .name .ensures), c .before .enum-told2 .given .1)
 
 pub name-bytes-spec : {M : Type 1} → statement M
 name-bytes-spec =

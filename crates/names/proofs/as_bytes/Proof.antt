@@ -4,9 +4,10 @@ use borrow.Author.Needs.{needs}
 use Prim.Native.Nat.{_+_}
 use native.Mathlib.Omega.{arith}
 use native.Mathlib.Nat.{add-sub-cancel-left}
+use mathlib.Core.Path.{refl}
 use lib.ListN.{length}
 use denote.Ref.{now}
-use Rattle.common.proofs.Readers.{room}
+use Rattle.common.proofs.Readers.{room, no-room}
 use Rattle.names.proofs.Names.{part-within, part-outside}
 use Rattle.names.proofs.as_bytes.Statement.{statement}
 use Rattle.names.proofs.as_bytes.Tie as tie
@@ -36,10 +37,20 @@ slice-aggregate-result c = search needs
 returns : tie.Need-returns
 returns c =
     let a = c .before .before .before .before .args in
-    rw (add-sub-cancel-left (a .p .start) (a .p .len)) (part-within _ (a .p) (c .before .before .has-room .ensures) (c .before .if1 .taken))
+    record {
+      bytes =
+          rw (add-sub-cancel-left (a .p .start) (a .p .len)) (part-within _ (a .p) (c .before .before .has-room .ensures) (c .before .if1 .taken));
+      place = λ h. refl;
+    }
 
 returns-2 : tie.Need-returns-2
-returns-2 c = part-outside _ _ (c .before .before .has-room .ensures) (c .before .if1 .left)
+returns-2 c =
+    let a = c .before .before .before .before .args in
+    let outside = no-room (a .p .start + a .p .len) (length (now (a .s))) (c .before .before .has-room .ensures) (c .before .if1 .left) in
+    record {
+      bytes = part-outside _ _ (c .before .before .has-room .ensures) (c .before .if1 .left);
+      place = λ h. absurd (omega (arith, h, outside));
+    }
 
 pub as-bytes-spec : {M : Type 1} → statement M
 as-bytes-spec =
