@@ -1,5 +1,5 @@
 /*
- * Writes a synthetic stream to standard output, three fillers on average before each record: procedures with blocks in one another,
+ * Writes a synthetic stream to standard output, three to four fillers on average before each record: procedures with blocks in one another,
  * and in these records of several classes. Links are right, so that the stream passes the nesting check.
  */
 #include <stdint.h>

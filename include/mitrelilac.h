@@ -17,9 +17,9 @@
  *
  * Fillers (kinds S_ALIGN 0x0402 and S_SKIP 0x0007) are passed over wherever records are read.
  *
- * A scope is opened by an opener (procedures, blocks, thunks, inline sites, ..) and closed by a closer (S_END 0x0006,
- * S_INLINESITE_END 0x114e, S_PROC_ID_END 0x114f). An opener's parent field is the index of the opener around it, 0 if there is
- * none, its end field the index of its closer.
+ * A scope is opened by an opener (procedures, blocks, thunks, inline sites, ..; not S_LPROC32_ID, as in pdb) and closed by a closer
+ * (S_END 0x0006, S_INLINESITE_END 0x114e, S_PROC_ID_END 0x114f). An opener's parent field is the index of the opener around it, 0 if
+ * there is none, its end field the index of its closer.
  *
  *
  * RULES OF EVERY CALL
@@ -68,7 +68,7 @@ enum mitrelilac_number {
     MITRELILAC_WRONG_END = 11,                /* check: a closer elsewhere than its opener's end field says, at its index */
     MITRELILAC_LEFT_OPEN = 12,                /* check: the stream ends in a scope, at the innermost one's index */
     MITRELILAC_UNUSABLE_LINK = 13,            /* jump, climb: a link that can't be followed */
-    MITRELILAC_NOTHING_THERE = 14             /* no record begins there, or the list has no such entry */
+    MITRELILAC_NOTHING_THERE = 14             /* no record begins there, or it is no opener, no register list, or has no such entry */
 };
 
 /*
@@ -127,8 +127,9 @@ uint32_t mitrelilac_register_entry(const uint8_t *record, size_t length, size_t 
 
 /*
  * The nesting check: reads the stream from `start` to its end and looks whether every scope is closed where its opener's end field
- * says and lies in the scope that its parent field names. On a stream that passes, mitrelilac_walk and mitrelilac_jump give the
- * same scopes for every position, and mitrelilac_climb the same ones in opposite order: this is proved.
+ * says and lies in the scope that its parent field names. On a stream that passes, with the same start, mitrelilac_walk and
+ * mitrelilac_jump give the same scopes at every position where a record begins, and both refuse with 14 at every other; and at an
+ * opener mitrelilac_climb gives these scopes in opposite order. This is proved.
  *
  *     out[0]  records read, fillers not counted
  *     out[1]  their bytes, lengths included
@@ -164,14 +165,16 @@ uint32_t mitrelilac_walk(const uint8_t *stream, size_t length, size_t start, siz
  * that passed mitrelilac_check from the same start the scopes are the same, and no more records are read; `out` is as there, with
  * the closers that were jumped to among the records read.
  *
- * Refuses what a step refuses, with its position, 9 and 14 as there; and
- *     13  if an opener before i can't be decoded, or its end field leads back or to no closer, or a closer before i stands where none
- *         was jumped to
+ * Refuses what a step refuses, with its position; and of the records that it reads before i
+ *     9   if more than 64 scopes are open, those that were jumped over not counted
+ *     13  if an opener can't be decoded, or its end field is below the position behind it; if i is above the end field and no closer
+ *         begins there; or if a closer was not jumped to
+ *     14  if no record begins at i
  */
 uint32_t mitrelilac_jump(const uint8_t *stream, size_t length, size_t start, size_t i, uint64_t out[MITRELILAC_WORDS(66)]);
 
 /*
- * The scopes that enclose the opener at position i, by following parent fields; the cost grows with the depth alone.
+ * The scopes that enclose the opener at position i, by following parent fields: one step at each opener.
  *
  *     out[0]        links followed
  *     out[1]        how many scopes there are, at most 64
@@ -179,7 +182,8 @@ uint32_t mitrelilac_jump(const uint8_t *stream, size_t length, size_t start, siz
  *
  * Refuses what a step at i refuses, with its position; and
  *     9   at a 65th link
- *     13  if the opener can't be decoded, or a parent field leads forward or to no opener that can be decoded
+ *     13  if the opener can't be decoded, or a parent field is not below the index of its opener, or no opener that can be decoded
+ *         begins there
  *     14  if no record begins at i, or it is no opener
  */
 uint32_t mitrelilac_climb(const uint8_t *stream, size_t length, size_t i, uint64_t out[MITRELILAC_WORDS(66)]);
@@ -222,8 +226,8 @@ enum mitrelilac_class {
  *     out[1]  the bytes of the record that its fields take, kind included; bytes behind them are ignored
  *
  * and from out[2] on the words of its class. `name` and other parts are two words, start and length in the record; `code` and other
- * places in the image are two words, offset and section; an index of 0 means none. "type" and "id" are indexes into the PDB's type
- * and id streams.
+ * places in the image are two words, offset and section; a parent or a next of 0 means none. "type" and "id" are indexes into the
+ * PDB's type and id streams.
  *
  *     class                    out[2 ..]
  *     SCOPE_END                none

@@ -6,7 +6,7 @@ use lib.ListN.{length, getD, replicate}
 use lib.Dec.{leb, eqb}
 use Rattle.chain.specs.declared.Chain.{Chain}
 
--- The chain of a stack, which lists the innermost position first: the chain lists the outermost first.
+-- The chain of a list of positions, which it lists the other way round: a stack, whose innermost position comes first, is listed outermost first.
 unfoldable pub chainOf : List ℕ → Chain
 chainOf st = record { at = reverse st ++ replicate (64 - length st) 0; depth = length st }
 

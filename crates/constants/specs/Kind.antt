@@ -1,5 +1,5 @@
--- The record kinds that are read, as cvinfo.h (SYM_ENUM_e) numbers them: the class that each is decoded as (the arms of `SymbolData::try_from_ctx`)
--- and its part in a scope (`starts_scope`, `ends_scope`).
+-- The record kinds that are read, or that open or close a scope, as cvinfo.h (SYM_ENUM_e) numbers them: the class that each is decoded
+-- as (the arms of `SymbolData::try_from_ctx`) and its part in a scope (`starts_scope`, `ends_scope`).
 use Prim.Native.Nat.{ℕ}
 use mathlib.Core.Bool.{Bool, true, false, cond, _||_}
 use mathlib.Core.List.{List, [], _∷_}

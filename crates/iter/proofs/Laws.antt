@@ -1,4 +1,4 @@
--- Laws of `frameAt`, `stepFrom` and `stepOf`.
+-- Laws of `frameAt`, `scanFrom` and `scanOf`.
 -- Assumes nothing.
 use mathlib.Core.Path.{_≡_, refl, sym, _∙_, ap}
 use mathlib.Core.List.{List}

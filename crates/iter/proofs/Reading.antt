@@ -1,4 +1,4 @@
--- Laws of `stepOf` that callers use, and of `readOf`: no fuel is left in them.
+-- Laws of `scanOf` that callers use, and of `readOf`: no fuel is left in them.
 -- Assumes nothing.
 use mathlib.Core.Path.{_≡_, refl, sym, _∙_, ap}
 use mathlib.Core.List.{List}

@@ -1,4 +1,5 @@
-// The list: blocks of cases, filled up with zeros, each case an operation, its argument and start, the bytes it is asked about and the oracle's answer in words.
+// The list: blocks of cases, filled up with zeros, each case an operation, its argument and start, the bytes it is asked about and the
+// oracle's answer in words.
 use replay_parts::FREE;
 use replay_parts::Words;
 
