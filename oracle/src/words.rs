@@ -14,10 +14,6 @@ impl<T: Words + ?Sized> Words for &T {
     }
 }
 
-impl Words for () {
-    fn write(&self, _: &mut Answer) {}
-}
-
 /// What a cast makes a word of; casts extend signs.
 macro_rules! casts {
     ($($type:ty)+) => { $(
