@@ -56,7 +56,7 @@ static void end(uint32_t index)
 
 static void put_name(void)
 {
-    static const char letters[] = "separation_of_halftone_cells";
+    static const char letters[] = "enumeration_of_symbol_scopes";
     put(letters, 1 + below(sizeof letters - 1));
     put("", 1);
 }

@@ -2,18 +2,18 @@
 # inlined calls. The same number always gives the same source.
 BEGIN {
     seed = 20
-    words = split("width height scanline tile band separation plate dot ink halftone_cell screen_angle row column page " \
-        "margin resolution threshold gamma_entry coverage trap", word)
+    words = split("width height scanline tile band definition state bit key identity_cell vector_angle row column node " \
+        "offset resolution threshold gamma_entry coverage hook", word)
     print "typedef unsigned char byte;"
     print "#define INLINE static inline __attribute__((always_inline))"
-    print "namespace raster {"
+    print "namespace engine {"
     print "INLINE unsigned rotate(unsigned sum, unsigned by) { unsigned high = sum << by; unsigned low = sum >> (32 - by); return high | low; }"
     print "INLINE unsigned mix(unsigned sum, byte sample) { unsigned turned = rotate(sum, 5); return turned ^ sample; }"
     print "INLINE unsigned blend(unsigned over, unsigned under) { unsigned mixed = mix(over, under & 255); return mixed + rotate(under, 9); }"
     for (k = 0; k < functions; k++)
         write_function(k)
     print "}"
-    printf "extern \"C\" int start(void) { return (int)raster::%s(1, 2); }\n", name(0)
+    printf "extern \"C\" int start(void) { return (int)engine::%s(1, 2); }\n", name(0)
 }
 
 function random(bound) {

@@ -275,15 +275,19 @@ fn long_list(op: Op, length: usize, random: &mut Random) -> Question {
     Question::new(op, entries - 1, record)
 }
 
+/// A record about as long as one may be.
+fn long(random: &mut Random) -> Question {
+    let length = LONGEST - 1 + random.below(3);
+    let op = random.pick(&OPS);
+    match op {
+        Op::Register => long_list(op, length, random),
+        _ => long_named(op, length, random),
+    }
+}
+
 pub fn question(random: &mut Random) -> Question {
     if random.one_in(16_384) {
-        let length = LONGEST - 1 + random.below(3);
-        let op = random.pick(&OPS);
-        return if op == Op::Register {
-            long_list
-        } else {
-            long_named
-        }(op, length, random);
+        return long(random);
     }
     let kind = kind(random);
     let mut record = well_formed(kind, random);

@@ -7,6 +7,9 @@ use mitrelilac::*;
 /// Where a place is expected whose bytes are PLACE.
 const PLACE: &[u8] = b"\x11\x22\0\0\x33\0";
 
+/// The bytes of type 0x1003.
+const TYPE: &[u8] = b"\x03\x10\0\0";
+
 fn place() -> Place {
     Place {
         offset: 0x2211,
@@ -69,16 +72,15 @@ fn modules() {
 }
 
 #[test]
-fn variables() {
+fn values() {
     let type_index = 0x1003;
     let name = b"x";
-    let type_bytes = b"\x03\x10\0\0";
     let register = Symbol::Register {
         type_index,
         register: 17,
         name,
     };
-    is(0x1106, &[type_bytes, b"\x11\0x\0"], register);
+    is(0x1106, &[TYPE, b"\x11\0x\0"], register);
     let constant = Symbol::Constant {
         managed: true,
         type_index,
@@ -86,12 +88,18 @@ fn variables() {
         name,
     };
     let minus_2 = b"\x09\x80\xfe\xff\xff\xff\xff\xff\xff\xff";
-    is(0x112d, &[type_bytes, minus_2, b"x\0"], constant);
+    is(0x112d, &[TYPE, minus_2, b"x\0"], constant);
     is(
         0x1108,
-        &[type_bytes, b"x\0"],
+        &[TYPE, b"x\0"],
         Symbol::UserType { type_index, name },
     );
+}
+
+#[test]
+fn variables() {
+    let type_index = 0x1003;
+    let name = b"x";
     let data = Symbol::Data {
         global: true,
         managed: false,
@@ -99,20 +107,20 @@ fn variables() {
         place: place(),
         name,
     };
-    is(0x110d, &[type_bytes, PLACE, b"x\0"], data);
+    is(0x110d, &[TYPE, PLACE, b"x\0"], data);
     let thread = Symbol::ThreadStorage {
         global: false,
         type_index,
         place: place(),
         name,
     };
-    is(0x1112, &[type_bytes, PLACE, b"x\0"], thread);
+    is(0x1112, &[TYPE, PLACE, b"x\0"], thread);
     let local = Symbol::Local {
         type_index,
         flags: LocalFlags(LocalFlags::ISPARAM | LocalFlags::ISENREG_STAT),
         name,
     };
-    is(0x113e, &[type_bytes, b"\x01\x02x\0"], local);
+    is(0x113e, &[TYPE, b"\x01\x02x\0"], local);
     let relative = Symbol::RegisterRelative {
         offset: -8,
         type_index,
@@ -121,7 +129,7 @@ fn variables() {
     };
     is(
         0x1111,
-        &[b"\xf8\xff\xff\xff", type_bytes, b"\x4f\x01x\0"],
+        &[b"\xf8\xff\xff\xff", TYPE, b"\x4f\x01x\0"],
         relative,
     );
 }
@@ -146,7 +154,7 @@ fn register_lists() {
 }
 
 #[test]
-fn references() {
+fn linkage() {
     let public = Symbol::Public {
         flags: PublicFlags(PublicFlags::FUNCTION),
         place: place(),
@@ -159,6 +167,10 @@ fn references() {
         name: b"f",
     };
     is(0x1138, &[b"\x07\0\x20\0f\0"], export);
+}
+
+#[test]
+fn references() {
     let (sum, index) = (1, 0x44);
     let module = Some(4);
     let target = b"\x01\0\0\0\x44\0\0\0\x05\0";
@@ -196,7 +208,7 @@ fn references() {
 }
 
 #[test]
-fn scopes() {
+fn procedures() {
     let procedure = Symbol::Procedure {
         global: true,
         dpc: false,
@@ -214,6 +226,16 @@ fn scopes() {
     let links = b"\0\0\0\0\x44\0\0\0\x48\0\0\0";
     let code = b"\x05\0\0\0\x01\0\0\0\x04\0\0\0\x03\x10\0\0";
     is(0x1110, &[links, code, PLACE, b"\x88f\0"], procedure);
+    let label = Symbol::Label {
+        code: place(),
+        flags: ProcedureFlags(ProcedureFlags::FAR),
+        name: b"l",
+    };
+    is(0x1105, &[PLACE, b"\x04l\0"], label);
+}
+
+#[test]
+fn scopes() {
     let block = Symbol::Block {
         parent: 4,
         end: 0x44,
@@ -236,12 +258,10 @@ fn scopes() {
     let links = b"\x04\0\0\0\x44\0\0\0\x03\x10\0\0";
     is(0x114d, &[links, b"\x0b\x01"], site(None));
     is(0x115d, &[links, b"\x09\0\0\0\x0b\x01"], site(Some(9)));
-    let label = Symbol::Label {
-        code: place(),
-        flags: ProcedureFlags(ProcedureFlags::FAR),
-        name: b"l",
-    };
-    is(0x1105, &[PLACE, b"\x04l\0"], label);
+}
+
+#[test]
+fn separated_code() {
     let separated = Symbol::SeparatedCode {
         parent: 4,
         end: 0x44,
@@ -291,6 +311,10 @@ fn thunks() {
         let links = b"\0\0\0\0\x44\0\0\0\0\0\0\0";
         is(0x1102, &[links, PLACE, b"\x05\0", bytes], thunk(variant));
     }
+}
+
+#[test]
+fn trampolines() {
     let trampoline = Symbol::Trampoline {
         trampoline: Trampoline::BranchIsland,
         size: 5,
