@@ -47,7 +47,7 @@ impl<'r> Field<'r> for bool {
     }
 }
 
-/// An index of 0 means none.
+/// A parent or a next of 0 means none.
 impl<'r> Field<'r> for Option<NonZeroU32> {
     fn take(words: &mut Words<'r, '_>) -> Self {
         NonZeroU32::new(words.take())
