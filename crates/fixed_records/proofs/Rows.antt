@@ -1,18 +1,31 @@
--- The layouts as rows of widths.
+-- The layouts of records of fixed fields alone, as rows of widths.
 -- Assumes nothing.
 use Prim.Native.Nat.{ℕ, _+_, _≤_, _<_}
 use mathlib.Core.Path.{_≡_, refl, ap, sym, _∙_}
 use mathlib.Core.List.{List}
 use lib.ListN.{length}
-use Rattle.common.specs.Reader.{value, refused, runsOut}
-use Rattle.common.specs.Row.{total, filled}
+use Rattle.common.specs.Reader.{Reader, value, refused, runsOut}
+use Rattle.common.specs.Row.{Fields, total, filled}
 use Rattle.common.proofs.Rows.{fixed, fixed-value, fixed-short-within}
-use Rattle.linkage.specs.Linkage.{trampoline}
-use Rattle.modules.specs.Module.{buildInfo}
-use Rattle.blocks.specs.Block.{separatedCode}
-use Rattle.fixed_records.specs.Fixed.{fixedLayout, fixedRow, fixedOf}
+use Rattle.records.specs.declared.SymbolData.{SymbolData}
+use Rattle.linkage.specs.Linkage.{trampoline, trampolineSymbolOf}
+use Rattle.modules.specs.Module.{buildInfo, buildInfoOf}
+use Rattle.blocks.specs.Block.{separatedCode, separatedCodeOf}
+use Rattle.fixed_records.specs.Fixed.{fixedRow}
 use Rattle.fixed_records.specs.declared.FixedRecord.{FixedRecord}
 use Rattle.fixed_records.specs.declared.FixedRecord.the-variants.{Trampoline, BuildInfo, SeparatedCode}
+
+-- the layout of each
+unfoldable pub fixedLayout : FixedRecord → Reader SymbolData
+fixedLayout Trampoline = trampoline
+fixedLayout BuildInfo = buildInfo
+fixedLayout SeparatedCode = separatedCode
+
+-- the record that is made of its fields
+abbrev pub fixedOf : (r : FixedRecord) → Fields (fixedRow r) SymbolData
+fixedOf Trampoline = trampolineSymbolOf
+fixedOf BuildInfo = buildInfoOf
+fixedOf SeparatedCode = separatedCodeOf
 
 pub fixed-row : (r : FixedRecord) (s : List ℕ) (at : ℕ) → fixed (fixedRow r) (fixedOf r) s at ≡ fixedLayout r s at
 unfolding fixed fixedLayout trampoline buildInfo separatedCode

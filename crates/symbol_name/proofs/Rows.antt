@@ -17,12 +17,11 @@ use Rattle.records.specs.declared.OptionPart.{OptionPart}
 use Rattle.records.specs.declared.OptionPart.the-variants.{None}
 use Rattle.records.specs.declared.SymbolData.{SymbolData}
 use Rattle.record_names.specs.Row.{namedRow}
-use Rattle.layouts.specs.Named.{namedLayout, namedOf}
 use Rattle.record_names.specs.declared.NamedRecord.{NamedRecord}
-use Rattle.layouts.proofs.Rows.{named-row}
-use Rattle.fixed_records.specs.Fixed.{fixedLayout, fixedRow, fixedOf}
+use Rattle.layouts.proofs.Rows.{namedLayout, namedOf, named-row}
+use Rattle.fixed_records.specs.Fixed.{fixedRow}
 use Rattle.fixed_records.specs.declared.FixedRecord.{FixedRecord}
-use Rattle.fixed_records.proofs.Rows.{fixed-row}
+use Rattle.fixed_records.proofs.Rows.{fixedLayout, fixedOf, fixed-row}
 use Rattle.symbol_name.specs.Name.{nameIn, namedBy}
 use Rattle.symbol_name.specs.Behind.{answered, nothingBehind}
 use Rattle.symbol_name.specs.declared.Named.the-variants as N

@@ -6,8 +6,7 @@ use Rattle.common.proofs.Rows.{behind-room}
 use Rattle.names.specs.Name.{symbolName}
 use Rattle.names.specs.Answer.{partOf}
 use Rattle.record_names.specs.declared.NamedRecord.the-variants.{ThreadStorage}
-use Rattle.layouts.specs.Named.{namedLayout}
-use Rattle.layouts.proofs.Rows.{named-value, named-refused, told}
+use Rattle.layouts.proofs.Rows.{namedLayout, named-value, named-refused, told}
 use Rattle.data_records.proofs.parse_thread_storage.Statement.{statement}
 use Rattle.data_records.proofs.parse_thread_storage.Tie as tie
 

@@ -6,8 +6,7 @@ use Rattle.common.proofs.Rows.{behind-room}
 use Rattle.names.specs.Name.{symbolName}
 use Rattle.names.specs.Answer.{partOf}
 use Rattle.record_names.specs.declared.NamedRecord.the-variants.{AnnotationReference}
-use Rattle.layouts.specs.Named.{namedLayout}
-use Rattle.layouts.proofs.Rows.{named-value, named-refused, told}
+use Rattle.layouts.proofs.Rows.{namedLayout, named-value, named-refused, told}
 use Rattle.module_records.proofs.parse_annotation_reference.Statement.{statement}
 use Rattle.module_records.proofs.parse_annotation_reference.Tie as tie
 

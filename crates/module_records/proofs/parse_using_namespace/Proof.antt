@@ -4,8 +4,7 @@ use borrow.Author.Needs.{needs}
 use mathlib.Core.Path.{sym, ap, _∙_}
 use Rattle.names.specs.Answer.{partOf}
 use Rattle.record_names.specs.declared.NamedRecord.the-variants.{UsingNamespace}
-use Rattle.layouts.specs.Named.{namedLayout}
-use Rattle.layouts.proofs.Rows.{named-value, named-refused}
+use Rattle.layouts.proofs.Rows.{namedLayout, named-value, named-refused}
 use Rattle.module_records.proofs.parse_using_namespace.Statement.{statement}
 use Rattle.module_records.proofs.parse_using_namespace.Tie as tie
 

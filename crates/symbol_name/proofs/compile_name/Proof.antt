@@ -5,7 +5,7 @@ use mathlib.Core.Path.{refl}
 use borrow.Author.Tests.{eq-eqb, ne-eqb}
 use mathlib.Core.Path.{_∙_}
 use Rattle.compile_flags.specs.Compile.{compile}
-use Rattle.layouts.specs.Named.{namedLayout}
+use Rattle.layouts.proofs.Rows.{namedLayout}
 use Rattle.record_names.specs.declared.NamedRecord.the-variants as M
 use Rattle.records.specs.declared.OptionPart.the-variants.{None}
 use Rattle.symbol_name.proofs.Rows.{named-name}

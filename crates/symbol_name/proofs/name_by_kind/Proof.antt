@@ -2,9 +2,9 @@
 -- Assumes nothing.
 use borrow.Author.Needs.{needs}
 use mathlib.Core.Path.{refl, ap, _∙_}
-use Rattle.fixed_records.specs.Fixed.{fixedLayout}
+use Rattle.fixed_records.proofs.Rows.{fixedLayout}
 use Rattle.fixed_records.specs.declared.FixedRecord.the-variants as F
-use Rattle.layouts.specs.Named.{namedLayout}
+use Rattle.layouts.proofs.Rows.{namedLayout}
 use Rattle.record_names.specs.declared.NamedRecord.the-variants as M
 use Rattle.records.specs.declared.OptionPart.the-variants.{None, Some}
 use Rattle.layouts.specs.Decode.{layout}
