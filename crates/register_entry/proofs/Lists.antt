@@ -2,15 +2,14 @@
 -- Assumes nothing.
 use Prim.Native.Nat.{ℕ, _+_, _≤_, _<_}
 use mathlib.Core.Path.{_≡_, refl, ap, _∙_, sym}
-use mathlib.Core.List.{List}
+use mathlib.Core.List.{List, [], _∷_}
 use mathlib.Core.Bool.{Bool, true, false, cond}
 use native.Mathlib.Omega.{arith}
-use borrow.Author.Tests.{lt-ltb, le-ltb, le-leb, lt-leb, leb-true}
+use borrow.Author.Tests.{lt-ltb, le-ltb}
 use lib.ListN.{length}
-use lib.Dec.{leb}
 use Rattle.common.specs.Bytes.{le}
-use Rattle.common.specs.Reader.{Read, value, refused, runsOut, refusal, Reader, _>>=_, uint}
-use Rattle.common.proofs.Readers.{uint-value, uint-short, then-value, then-refused}
+use Rattle.common.specs.Reader.{Read, value, refused, runsOut, refusal, uint}
+use Rattle.common.proofs.Rows.{leading, leading-reads, leading-short}
 use Rattle.entries.specs.Entries.{entryAt}
 use Rattle.registers.specs.Registers.{registerCount}
 use Rattle.entries.specs.declared.RegisterEntry.{RegisterEntry}
@@ -32,25 +31,20 @@ pub counted-above : (kind count k : ℕ) (s : List ℕ) (at : ℕ) → count ≤
 unfolding countedEntry
 counted-above kind count k s at h = rw (le-ltb k count h)
 
+-- the type and a count of w bytes are there, or run out
 module _ (kind w k : ℕ) (is : registerCount kind ≡ uint w) (s : List ℕ) where
-  behind-type : 6 ≤ length s → listEntry kind k s 2 ≡ (uint w >>= λ count. countedEntry kind count k) s 6
+  list-row : leading (4 ∷ w ∷ []) (λ type count. countedEntry kind count k) s 2 ≡ listEntry kind k s 2
   unfolding listEntry
-  behind-type h =
-      then-value (uint 4) (λ t. registerCount kind >>= λ count. countedEntry kind count k) s 2 (uint-value 4 s 2 (le-leb 6 (length s) h))
-      ∙ ap (λ (m : Reader ℕ). (m >>= λ count. countedEntry kind count k) s 6) is
+  list-row = rw is
 
   pub list-there : 6 + w ≤ length s → {count : ℕ} {r : Read RegisterEntry} → count ≡ le w s 6 → r ≡ countedEntry kind count k s (6 + w) → r ≡ listEntry kind k s 2
   list-there h q e =
       e ∙ ap (λ (n : ℕ). countedEntry kind n k s (6 + w)) q
-      ∙ sym (behind-type (omega arith) ∙ then-value (uint w) (λ count. countedEntry kind count k) s 6 (uint-value w s 6 (le-leb (6 + w) (length s) h)))
+      ∙ ap (countedEntry kind (le w s 6) k s) (omega arith)
+      ∙ sym (leading-reads (4 ∷ w ∷ []) (λ type count. countedEntry kind count k) s 2 (omega arith)) ∙ list-row
 
   pub list-short : length s < 6 + w → refused runsOut ≡ listEntry kind k s 2
-  unfolding listEntry
-  list-short h = go (leb 6 (length s)) refl
-    where
-      go : (b : Bool) → leb 6 (length s) ≡ b → refused runsOut ≡ (uint 4 >>= λ t. registerCount kind >>= λ count. countedEntry kind count k) s 2
-      go true e = sym (behind-type (leb-true 6 (length s) e) ∙ then-refused (uint w) (λ count. countedEntry kind count k) s 6 (uint-short w s 6 (lt-leb (6 + w) (length s) h)))
-      go false e = sym (then-refused (uint 4) (λ t. registerCount kind >>= λ count. countedEntry kind count k) s 2 (uint-short 4 s 2 e))
+  list-short h = sym (leading-short 4 (w ∷ []) (λ type count. countedEntry kind count k) s 2 (omega arith)) ∙ list-row
 
 -- the entry, where the record is of a kind of lists or of another
 abbrev chosen : List ℕ → ℕ → Bool → Read RegisterEntry

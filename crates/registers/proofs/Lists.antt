@@ -1,17 +1,15 @@
 -- What reading a register list gives.
 -- Assumes nothing.
 use Prim.Native.Nat.{ℕ, _+_, _≤_, _<_}
-use mathlib.Core.Path.{_≡_, refl, _∙_, sym}
-use mathlib.Core.List.{List}
+use mathlib.Core.Path.{_≡_, ap, _∙_, sym}
+use mathlib.Core.List.{List, [], _∷_}
 use mathlib.Core.Bool.{Bool, true, false}
 use native.Mathlib.Omega.{arith}
-use borrow.Author.Tests.{le-leb, lt-leb, leb-true}
 use lib.ListN.{length}
-use lib.Dec.{leb}
 use Rattle.common.specs.Bytes.{le}
 use Rattle.common.specs.Reader.{Read, value, refused, runsOut, _>>=_, uint}
 use Rattle.common.specs.declared.Refusal.{Refusal}
-use Rattle.common.proofs.Readers.{uint-value, uint-short, then-value, then-refused}
+use Rattle.common.proofs.Rows.{leading, leading-reads, leading-short}
 use Rattle.records.specs.declared.SymbolData.{SymbolData}
 use Rattle.entries.specs.Entries.{skip}
 use Rattle.registers.specs.Registers.{longList, registerCount, multiRegisterOf, registerList, multiRegisterVariable}
@@ -37,28 +35,16 @@ count-short kind e = rw e
 
 -- the type and a count of w bytes are there, or run out
 module _ (w kind : ℕ) (s : List ℕ) (at : ℕ) (width : registerCount kind ≡ uint w) where
-  type-there : at + 4 ≤ length s → multiRegisterVariable kind s at ≡ (uint w >>= λ count. registerList kind (le 4 s at) count) s (at + 4)
+  multi-row : leading (4 ∷ w ∷ []) (λ type count. registerList kind type count) s at ≡ multiRegisterVariable kind s at
   unfolding multiRegisterVariable
-  type-there h =
-      then-value (uint 4) (λ type. registerCount kind >>= λ count. registerList kind type count) s at (uint-value 4 s at (le-leb (at + 4) (length s) h))
-      ∙ rw width
+  multi-row = rw width
 
   pub multi-there : at + 4 + w ≤ length s → {r : Read SymbolData} {type count : ℕ} → type ≡ le 4 s at → count ≡ le w s (at + 4) → r ≡ registerList kind type count s (at + 4 + w) → r ≡ multiRegisterVariable kind s at
   multi-there h p q e =
       e
       ∙ rw (p, q)
-      (sym
-      (type-there (omega arith)
-      ∙ then-value (uint w) (registerList kind (le 4 s at)) s (at + 4) (uint-value w s (at + 4) (le-leb (at + 4 + w) (length s) h))))
+      (ap (registerList kind (le 4 s at) (le w s (at + 4)) s) (omega arith)
+      ∙ sym (leading-reads (4 ∷ w ∷ []) (λ type count. registerList kind type count) s at (omega arith)) ∙ multi-row)
 
   pub multi-short : length s < at + 4 + w → refused runsOut ≡ multiRegisterVariable kind s at
-  unfolding multiRegisterVariable
-  multi-short h = go (leb (at + 4) (length s)) refl
-    where
-      go : (b : Bool) → leb (at + 4) (length s) ≡ b → refused runsOut ≡ multiRegisterVariable kind s at
-      go true e =
-          sym
-          (type-there (leb-true (at + 4) (length s) e)
-          ∙ then-refused (uint w) (registerList kind (le 4 s at)) s (at + 4) (uint-short w s (at + 4) (lt-leb (at + 4 + w) (length s) h)))
-      go false e =
-          sym (then-refused (uint 4) (λ type. registerCount kind >>= λ count. registerList kind type count) s at (uint-short 4 s at e))
+  multi-short h = sym (leading-short 4 (w ∷ []) (λ type count. registerList kind type count) s at (omega arith)) ∙ multi-row

@@ -9,35 +9,12 @@ use Rattle.common.specs.Reader.{Read, value, refused, runsOut, Reader, done, ne
 use Rattle.common.specs.declared.Refusal.{Refusal}
 use Rattle.common.proofs.Readers.{then-value, then-refused}
 use Rattle.common.specs.Row.{Fields, total, filled}
-use Rattle.common.proofs.Rows.{fixed, fixed-value, fixed-short}
+use Rattle.common.proofs.Rows.{leading, leading-reads, leading-short}
 use Rattle.names.specs.Name.{symbolName}
 use Rattle.names.specs.declared.Part.{Part}
 use Rattle.records.specs.declared.ThunkKind.{ThunkKind}
 use Rattle.records.specs.declared.SymbolData.{SymbolData}
 use Rattle.thunks.specs.Thunk.{thunkKind, thunk, thunkOf}
-
--- a row whose numbers decide what is read behind it
-unfoldable leading : {A : Type 0} (ws : List ℕ) → Fields ws (Reader A) → Reader A
-leading [] behind = behind
-leading (w ∷ ws) behind = uint w >>= λ x. leading ws (behind x)
-
--- it is a row that makes a reader, and then that reader
-leading-is : {A : Type 0} (ws : List ℕ) (behind : Fields ws (Reader A)) (s : List ℕ) (at : ℕ) → (fixed ws behind >>= λ m. m) s at ≡ leading ws behind s at
-unfolding leading fixed _>>=_
-leading-is [] behind s at = refl
-leading-is (w ∷ ws) behind s at = go (λ x to. leading-is ws (behind x) s to) (uint w s at)
-  where
-    go : ((x to : ℕ) → (fixed ws (behind x) >>= λ m. m) s to ≡ leading ws (behind x) s to) → (r : Read ℕ) → next (λ m. m) s (next (λ x. fixed ws (behind x)) s r) ≡ next (λ x. leading ws (behind x)) s r
-    go same (value x to) = same x to
-    go same (refused e) = refl
-
-leading-reads : {A : Type 0} (ws : List ℕ) (behind : Fields ws (Reader A)) (s : List ℕ) (at : ℕ) → at + total ws ≤ length s → leading ws behind s at ≡ filled ws behind s at s (at + total ws)
-leading-reads ws behind s at h =
-    sym (leading-is ws behind s at) ∙ then-value (fixed ws behind) (λ m. m) s at (sym (fixed-value ws behind s at h))
-
-leading-short : {A : Type 0} (w : ℕ) (ws : List ℕ) (behind : Fields (w ∷ ws) (Reader A)) (s : List ℕ) (at : ℕ) → length s < at + total (w ∷ ws) → leading (w ∷ ws) behind s at ≡ refused runsOut
-leading-short w ws behind s at h =
-    sym (leading-is (w ∷ ws) behind s at) ∙ then-refused (fixed (w ∷ ws) behind) (λ m. m) s at (sym (fixed-short w ws behind s at h))
 
 -- the ordinal decides what is read behind the name
 abbrev thunkRow : List ℕ
@@ -48,7 +25,7 @@ thunkBehind kind parent end next offset section len code =
     symbolName kind >>= λ name. thunkKind code >>= λ variant. done (thunkOf parent end next offset section len name variant)
 
 thunk-row : (kind : ℕ) (s : List ℕ) (at : ℕ) → leading thunkRow (thunkBehind kind) s at ≡ thunk kind s at
-unfolding leading thunk
+unfolding thunk
 thunk-row kind s at = refl
 
 pub thunk-short : (kind : ℕ) (s : List ℕ) → length s < 23 → refused runsOut ≡ thunk kind s 2

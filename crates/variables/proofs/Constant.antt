@@ -2,13 +2,13 @@
 -- Assumes nothing.
 use Prim.Native.Nat.{ℕ, _≤_, _<_}
 use mathlib.Core.Path.{_≡_, _∙_, sym}
-use mathlib.Core.List.{List}
-use borrow.Author.Tests.{le-leb, lt-leb}
+use mathlib.Core.List.{List, [], _∷_}
 use lib.ListN.{length}
 use Rattle.common.specs.Bytes.{le}
-use Rattle.common.specs.Reader.{value, refused, runsOut, done, _>>=_, u32}
+use Rattle.common.specs.Reader.{value, refused, runsOut, done, _>>=_}
 use Rattle.common.specs.declared.Refusal.{Refusal}
-use Rattle.common.proofs.Readers.{uint-value, uint-short, then-value, then-refused}
+use Rattle.common.proofs.Readers.{then-value, then-refused}
+use Rattle.common.proofs.Rows.{leading-reads, leading-short}
 use Rattle.names.specs.Name.{symbolName}
 use Rattle.names.specs.declared.Part.{Part}
 use Rattle.variant.specs.Numeric.{numeric}
@@ -19,12 +19,13 @@ module _ (kind : ℕ) (s : List ℕ) where
   -- the type runs out
   pub constant-short : length s < 6 → refused runsOut ≡ constant kind s 2
   unfolding constant
-  constant-short h = sym (then-refused u32 _ s 2 (uint-short 4 s 2 (lt-leb 6 (length s) h)))
+  constant-short h = sym (leading-short 4 [] _ s 2 h)
 
   module _ (h : 6 ≤ length s) where
     constant-typed : constant kind s 2 ≡ (numeric >>= λ v. symbolName kind >>= λ n. done (constantOf kind (le 4 s 2) v n)) s 6
     unfolding constant
-    constant-typed = then-value u32 _ s 2 (uint-value 4 s 2 (le-leb 6 (length s) h))
+    constant-typed =
+        leading-reads (4 ∷ []) (λ type. numeric >>= λ v. symbolName kind >>= λ n. done (constantOf kind type v n)) s 2 h
 
     -- the value is refused
     pub constant-refused : {e : Refusal} → refused e ≡ numeric s 6 → refused e ≡ constant kind s 2
