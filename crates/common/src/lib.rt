@@ -20,6 +20,13 @@ impl Refusal {
         position: 0,
         detail: 0,
     };
+
+    // A stream or a record is longer than any that is read.
+    pub const TOO_LONG: Refusal = Refusal {
+        number: 5,
+        position: 0,
+        detail: 0,
+    };
 }
 
 // Whether n bytes stand at a position.

@@ -6,6 +6,7 @@ use mathlib.Core.Bool.{Bool, cond}
 use lib.Dec.{ltb, eqb}
 use Rattle.common.specs.Reader.{Read, value, refused, refusal, Reader, _>>=_, refuse, u32}
 use Rattle.constants.specs.Kind.{classOf, classNumber}
+use Rattle.constants.specs.declared.Class.the-variants.{MultiRegisterVariable}
 use Rattle.records.specs.declared.SymbolData.{SymbolData}
 use Rattle.entries.specs.Entries.{entryAt}
 use Rattle.registers.specs.Registers.{registerCount}
@@ -13,9 +14,9 @@ use Rattle.entries.specs.declared.RegisterEntry.{RegisterEntry}
 use Rattle.kind.specs.Raw.{rawKind}
 use Rattle.layouts.specs.Decode.{decode}
 
--- a kind of the class MultiRegisterVariable, the sixth
+-- a kind of the class MultiRegisterVariable
 unfoldable pub isList : ℕ → Bool
-isList kind = eqb (classNumber (classOf kind)) 6
+isList kind = eqb (classNumber (classOf kind)) (classNumber MultiRegisterVariable)
 
 unfoldable pub countedEntry : ℕ → ℕ → ℕ → Reader RegisterEntry
 countedEntry kind count k = cond (ltb k count) (entryAt kind k) (refuse (refusal 14 0 0))

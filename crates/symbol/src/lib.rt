@@ -74,11 +74,7 @@ pub fn decode(s: &[u8]) -> Decoded
     ensures { λ r. ⌜ decodedOf r ≡ decode (now (s .entry)) ⌝ }
 {
     if layouts::MAX_RECORD < s.len() {
-        return Decoded::Refused(Refusal {
-            number: 5,
-            position: 0,
-            detail: 0,
-        });
+        return Decoded::Refused(Refusal::TOO_LONG);
     }
     if s.len() < 2 {
         return Decoded::Refused(Refusal::UNEXPECTED_EOF);

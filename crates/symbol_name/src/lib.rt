@@ -212,11 +212,7 @@ pub fn name(s: &[u8]) -> Named
     ensures { λ r. ⌜ r ≡ nameOf (now (s .entry)) ⌝ }
 {
     if layouts::MAX_RECORD < s.len() {
-        return Named::Refused(Refusal {
-            number: 5,
-            position: 0,
-            detail: 0,
-        });
+        return Named::Refused(Refusal::TOO_LONG);
     }
     if s.len() < 2 {
         return Named::Refused(Refusal::UNEXPECTED_EOF);

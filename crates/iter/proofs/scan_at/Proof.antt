@@ -1,22 +1,16 @@
 -- `iter::scan_at` meets its contract.
 -- Assumes nothing.
 use borrow.Author.Needs.{needs}
-use mathlib.Core.Path.{ap, _∙_}
-use Rattle.common.specs.declared.Refusal.{Refusal}
-use Rattle.iter.specs.Step.{plain}
-use Rattle.iter.specs.declared.Next.the-variants.{Refused}
+use mathlib.Core.Path.{_∙_}
 use Rattle.iter.proofs.Laws.{scan-long, scan-inside, scan-past}
 use Rattle.iter.proofs.scan_at.Statement.{statement}
 use Rattle.iter.proofs.scan_at.Tie as tie
-
-refused-requires : tie.Need-refused-requires
-refused-requires c κs = search needs
 
 scanned-requires : tie.Need-scanned-requires
 scanned-requires c κs = search needs
 
 returns : tie.Need-returns
-returns c = c .scanned .ensures ∙ ap (λ (e : Refusal). plain (Refused e)) (c .before .refused .ensures) ∙ scan-long _ _ (c .before .before .if1 .taken)
+returns c = c .scanned .ensures ∙ scan-long _ _ (c .before .if1 .taken)
 
 scan-within-requires : tie.Need-scan-within-requires
 scan-within-requires c κs = search needs
@@ -34,7 +28,6 @@ pub scan-at-spec : {M : Type 1} → statement M
 scan-at-spec =
     tie.close
     (tie.spec
-    refused-requires
     scanned-requires
     returns
     scan-within-requires
