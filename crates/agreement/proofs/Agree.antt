@@ -17,9 +17,10 @@ use Rattle.finding.specs.declared.Outcome.the-variants.{Answer, Refused}
 use Rattle.walk.proofs.Walks.{walkAt}
 use Rattle.jump.specs.Jump.{jumpFrom}
 use Rattle.check_nesting.specs.Check.{Open}
+use Rattle.check_nesting.proofs.Checks.{indexes, length-each}
 use Rattle.agreement.proofs.Nest.{openAt, Nest, done, passes, opens, closes}
 use Rattle.agreement.proofs.Turns.{same-out, same-stack, same-count, walk-end, jump-end, walk-same, walk-past, jump-same, jump-past, walk-plain, jump-plain, walk-open, jump-push, jump-over}
-use Rattle.agreement.proofs.Skip.{idxs, idxs-length, through-one, Skip, skip}
+use Rattle.agreement.proofs.Skip.{through-one, Skip, skip}
 
 -- where an index k lies, seen from i
 pub data Order (k i : ℕ) : Type 0 where
@@ -67,7 +68,7 @@ Reach i (o ∷ st) = i ≤ o .end
 
 module _ (s : List ℕ) (i : ℕ) where
   abbrev Goal : ℕ → List Open → Type 0
-  Goal p st = Agree (jumpFrom s i p (idxs st)) (walkAt s i p (idxs st))
+  Goal p st = Agree (jumpFrom s i p (indexes st)) (walkAt s i p (indexes st))
 
   -- a record before i is dealt with by `before`; at i and past it nothing else matters
   meets : {index from len next : ℕ} (p : ℕ) (st : List Open) → scanOf s p .next ≡ N.Record index from len next → (index < i → Goal p st) → Goal p st
@@ -76,12 +77,12 @@ module _ (s : List ℕ) (i : ℕ) where
       go : Order index i → Goal p st
       go (less a) = before a
       go (same a) =
-          let j = jump-same s i p (idxs st) index from len next h a in
-          let w = walk-same s i p (idxs st) index from len next h a in
+          let j = jump-same s i p (indexes st) index from len next h a in
+          let w = walk-same s i p (indexes st) index from len next h a in
           both (same-out j) (same-out w) (same-stack (j ∙ sym w))
-          (let n : length (jumpFrom s i p (idxs st) .visited) ≡ length (walkAt s i p (idxs st) .visited) = same-count (j ∙ sym w) in omega arith)
+          (let n : length (jumpFrom s i p (indexes st) .visited) ≡ length (walkAt s i p (indexes st) .visited) = same-count (j ∙ sym w) in omega arith)
       go (more a) =
-          none (same-out (jump-past s i p (idxs st) index from len next h a)) (same-out (walk-past s i p (idxs st) index from len next h a))
+          none (same-out (jump-past s i p (indexes st) index from len next h a)) (same-out (walk-past s i p (indexes st) index from len next h a))
 
   pub agree : (m p : ℕ) (st : List Open) → length s - p < m → Reach i st → Nest s p st → Goal p st
   agree zero p st f c d = absurd (not-suc-le-zero f)
@@ -90,24 +91,24 @@ module _ (s : List ℕ) (i : ℕ) where
       meets p st h
       (λ a.
       let y = step-fits s p index from len next h in
-      along-one _ (jump-plain s i p (idxs st) index from len next h a r) (walk-plain s i p (idxs st) index from len next h a r)
+      along-one _ (jump-plain s i p (indexes st) index from len next h a r) (walk-plain s i p (indexes st) index from len next h a r)
       (agree m next st (omega arith) c d))
   agree (suc m) p st f c (opens {index = index} {from = from} {len = len} {next = next} {end = end} h r g z t o d) =
       meets p st h
       (λ a.
       let y = step-fits s p index from len next h in
-      let x : length (idxs st) ≡ length st = idxs-length st in
-      let room : length (idxs st) < 64 = omega arith in
+      let x : length (indexes st) ≡ length st = length-each (λ o. o .index) st in
+      let room : length (indexes st) < 64 = omega arith in
       let w : Skip s i next (openAt index end ∷ st) end st = skip s i (openAt index end) st [] d refl in
       let ny = step-fits s end end (w .start) (w .long) (w .after) (w .lands) in
       let ne : next ≤ end = w .from in
       below end i
       (λ (q : i ≤ end).
-      along-one _ (jump-push s i p (idxs st) index from len next h a r g ne q room) (walk-open s i p (idxs st) index from len next h a r room)
+      along-one _ (jump-push s i p (indexes st) index from len next h a r g ne q room) (walk-open s i p (indexes st) index from len next h a r room)
       (agree m next (openAt index end ∷ st) (omega arith) q d))
       (λ (q : end < i).
-      let b = jump-over s i p (idxs st) index from len next h a r g ne q (w .lands) (w .closer) in
-      let k = through-one _ (walk-open s i p (idxs st) index from len next h a r room) in
+      let b = jump-over s i p (indexes st) index from len next h a r g ne q (w .lands) (w .closer) in
+      let k = through-one _ (walk-open s i p (indexes st) index from len next h a r room) in
       let l = w .walked q in
       let km = k .more in
       let lm = l .more in

@@ -24,10 +24,10 @@ use Rattle.jump.specs.Jump.{jumpFrom, jumpOf}
 use Rattle.climb.specs.Climb.{reachedBy, climbOf}
 use Rattle.opener.specs.declared.Opener.the-variants.{Parent}
 use Rattle.check_nesting.specs.Check.{Open}
+use Rattle.check_nesting.proofs.Checks.{indexes, length-each}
 use Rattle.agreement.specs.Agreement.{Some, Begins, OpenerBegins, BothAnswer, ClimbsThem, Agreement, Condition3, answersOf}
 use Rattle.agreement.proofs.Nest.{bytesAt, openAt, Nest, done, passes, opens, closes, check-nests}
 use Rattle.agreement.proofs.Turns.{same-out, same-stack, walk-end, walk-same, walk-past, walk-plain, walk-open, walk-close}
-use Rattle.agreement.proofs.Skip.{idxs, idxs-length}
 use Rattle.agreement.proofs.Agree.{Order, less, same, more, order, Agree, both, none, agree}
 use Rattle.agreement.proofs.Parents.{opener-found, Up, top, over, up-later, up-out, climb-opener, reversed-stack}
 
@@ -70,7 +70,7 @@ module _ (s : List ℕ) (i : ℕ) where
 
   -- the walk from p, with the openers st open
   abbrev walk-from : ℕ → List Open → Walk
-  walk-from p st = walkAt s i p (idxs st)
+  walk-from p st = walkAt s i p (indexes st)
 
   -- climbing gives the stack of a walk, reversed
   abbrev Climbs : Walk → Type 0
@@ -101,13 +101,13 @@ module _ (s : List ℕ) (i : ℕ) where
         let f : next ≤ i = some-from P i at next (readOf s next .recs) (rising s next) b in
         absurd (omega arith)
 
-    meets : (index < i → Met p st) → (index ≡ i → nestingRoleOf (bytesAt s from len) ≡ Opens → climbOf s i ≡ reachedBy (chainOf (reverse (idxs st)))) → Met p st
+    meets : (index < i → Met p st) → (index ≡ i → nestingRoleOf (bytesAt s from len) ≡ Opens → climbOf s i ≡ reachedBy (chainOf (reverse (indexes st)))) → Met p st
     meets before climbs = by (order index i)
       where
         by : Order index i → Met p st
         by (less l) = before l
         by (same e) =
-            let w = walk-same s i p (idxs st) index from len next h e in
+            let w = walk-same s i p (indexes st) index from len next h e in
             found (from-with s Is p index from len next h (inl e)) (same-out w)
             (λ o.
             elim (from-is s IsOpener p index from len next h o) [
@@ -121,30 +121,30 @@ module _ (s : List ℕ) (i : ℕ) where
               | inl e ↦ absurd (omega arith)
               | inr c ↦ absurd (later Is (λ r x. x) (omega arith) c)
             ])
-            (same-out (walk-past s i p (idxs st) index from len next h l))
+            (same-out (walk-past s i p (indexes st) index from len next h l))
 
   met : (p : ℕ) (st : List Open) → length st ≤ 64 → Up s p st → Nest s p st → Met p st
   met p st m u (done {q = q} h) = lost (from-end s Is p q h) (same-out (walk-end s i p [] q h))
   met p st m u (passes {index = index} {from = from} {len = len} {next = next} h r d) =
       let y = step-fits s p index from len next h in
       meets p index from len next st h
-      (λ a. past p index from len next st h st a (walk-plain s i p (idxs st) index from len next h a r)
+      (λ a. past p index from len next st h st a (walk-plain s i p (indexes st) index from len next h a r)
       (met next st m (up-later next (omega arith) u) d))
       (λ e o. absurd (let z : Neither ≡ Opens = sym r ∙ o in let w : _≡_ {A = ℕ} 0 1 = cc in omega arith))
   met p st m u (opens {index = index} {from = from} {len = len} {next = next} {parent = parent} {end = end} h r g z t o d) =
       let y = step-fits s p index from len next h in
-      let x : length (idxs st) ≡ length st = idxs-length st in
-      let room : length (idxs st) < 64 = omega arith in
+      let x : length (indexes st) ≡ length st = length-each (λ o. o .index) st in
+      let room : length (indexes st) < 64 = omega arith in
       let opener = opener-found s p index from len next parent end h r g ∙ ap Parent t in
       let below : Up s index st = up-later index (omega arith) u in
       meets p index from len next st h
-      (λ a. past p index from len next st h (openAt index end ∷ st) a (walk-open s i p (idxs st) index from len next h a r room)
+      (λ a. past p index from len next st h (openAt index end ∷ st) a (walk-open s i p (indexes st) index from len next h a r room)
       (met next (openAt index end ∷ st) o (over (omega arith) z opener below) d))
-      (λ e q. subst (λ (k : ℕ). climbOf s k ≡ reachedBy (chainOf (reverse (idxs st)))) e (climb-opener s index st opener m below))
+      (λ e q. subst (λ (k : ℕ). climbOf s k ≡ reachedBy (chainOf (reverse (indexes st)))) e (climb-opener s index st opener m below))
   met p _ m u (closes {index = index} {from = from} {len = len} {next = next} {o = o} {st = st} h r t d) =
       let y = step-fits s p index from len next h in
       meets p index from len next (o ∷ st) h
-      (λ a. past p index from len next (o ∷ st) h st a (walk-close s i p (o .index) (idxs st) index from len next h a r)
+      (λ a. past p index from len next (o ∷ st) h st a (walk-close s i p (o .index) (indexes st) index from len next h a r)
       (met next st (omega arith) (up-out next (omega arith) u) d))
       (λ e q. absurd (let z : Closes ≡ Opens = sym r ∙ q in let w : _≡_ {A = ℕ} 0 1 = cc in omega arith))
 

@@ -18,13 +18,13 @@ use Rattle.kind.specs.Raw.{nestingRoleOf}
 use Rattle.links.specs.Links.{linksOf}
 use Rattle.links.specs.declared.Links.the-variants.{Read}
 use Rattle.check_nesting.specs.Check.{Open, innerIndex}
+use Rattle.check_nesting.proofs.Checks.{indexes}
 use Rattle.opener.specs.declared.Opener.the-variants.{Parent}
 use Rattle.opener.specs.Opener.{openerOn, openerOf}
 use Rattle.climb.specs.Climb.{reachedBy, climbBy, climbOn, climbOf}
 use Rattle.climb.proofs.Climbs.{climb-top, climb-below}
 use Rattle.agreement.specs.Agreement.{reversed}
 use Rattle.agreement.proofs.Nest.{bytesAt}
-use Rattle.agreement.proofs.Skip.{idxs}
 
 -- an opener that a step yields is found at its own index, with its parent field
 pub opener-found : (s : List ℕ) (p index from len next parent end : ℕ) → scanOf s p .next ≡ N.Record index from len next →
@@ -47,7 +47,7 @@ pub up-out : {s : List ℕ} {p : ℕ} (q : ℕ) {o : Open} {st : List Open} → 
 up-out q l (over a z e u) = up-later q (omega arith) u
 
 climb-up : (s : List ℕ) (room k : ℕ) (st : List Open) (links : List ℕ) → length st ≤ room → Up s k st →
-    climbOn room s k (innerIndex st) links ≡ reachedBy (chainOf (reverseAux (idxs st) links))
+    climbOn room s k (innerIndex st) links ≡ reachedBy (chainOf (reverseAux (indexes st) links))
 climb-up s room k st links l top = climb-top s k 0 links room refl
 climb-up s zero k st links l (over a z e u) = absurd (not-suc-le-zero l)
 climb-up s (suc room) k (o ∷ st) links l (over a z e u) =
@@ -55,7 +55,7 @@ climb-up s (suc room) k (o ∷ st) links l (over a z e u) =
     ∙ climb-up s room (o .index) st (o .index ∷ links) (omega arith) u
 
 pub climb-opener : (s : List ℕ) (i : ℕ) (st : List Open) → openerOf s i ≡ Parent (innerIndex st) → length st ≤ 64 → Up s i st →
-    climbOf s i ≡ reachedBy (chainOf (reverse (idxs st)))
+    climbOf s i ≡ reachedBy (chainOf (reverse (indexes st)))
 unfolding climbOf
 climb-opener s i st e l u = ap (climbBy s i) e ∙ climb-up s 64 i st [] l u
 

@@ -1,6 +1,6 @@
 -- From inside a scope whose end field is e, reading comes to a closer at e; and the walk to a position past e comes there too.
 -- Assumes nothing.
-use mathlib.Core.Path.{_≡_, refl, sym, _∙_, ap}
+use mathlib.Core.Path.{_≡_, sym, _∙_, ap}
 use mathlib.Core.List.{List, [], _∷_, _++_}
 use Prim.Native.Nat.{ℕ, suc, _≤_, _<_}
 use native.Mathlib.Omega.{arith}
@@ -16,17 +16,9 @@ use Rattle.kind.specs.Raw.{nestingRoleOf}
 use Rattle.finding.specs.Finding.{Walk, seen}
 use Rattle.walk.proofs.Walks.{walkAt}
 use Rattle.check_nesting.specs.Check.{Open}
+use Rattle.check_nesting.proofs.Checks.{indexes, length-each}
 use Rattle.agreement.proofs.Nest.{bytesAt, openAt, Nest, done, passes, opens, closes}
 use Rattle.agreement.proofs.Turns.{same-out, same-stack, same-count, walk-plain, walk-open, walk-close}
-
--- the indexes of the open openers: the finders' stack
-abbrev pub idxs : List Open → List ℕ
-idxs [] = []
-idxs (o ∷ st) = o .index ∷ idxs st
-
-pub idxs-length : (st : List Open) → length (idxs st) ≡ length st
-idxs-length [] = refl
-idxs-length (o ∷ st) = ap suc (idxs-length st)
 
 -- the walk w ends as v does, and visits more records
 pub record Through (w v : Walk) : Type 0 where
@@ -53,12 +45,12 @@ pub record Skip (s : List ℕ) (i p : ℕ) (gs : List Open) (e : ℕ) (fs : List
   pub lands : scanOf s e .next ≡ N.Record e start long after
   pub closer : nestingRoleOf (bytesAt s start long) ≡ Closes
   pub rest : Nest s after fs
-  pub walked : e < i → Through (walkAt s i p (idxs gs)) (walkAt s i after (idxs fs))
+  pub walked : e < i → Through (walkAt s i p (indexes gs)) (walkAt s i after (indexes fs))
 
 module _ (s : List ℕ) (i : ℕ) (o : Open) (fs : List Open) where
   -- one more record, at index, in front of what is skipped
   more-skip : {p index from len next : ℕ} (gs hs : List Open) → scanOf s p .next ≡ N.Record index from len next →
-      (index < i → walkAt s i p (idxs gs) ≡ seen (recAt s (scanOf s p) index from len) (walkAt s i next (idxs hs))) →
+      (index < i → walkAt s i p (indexes gs) ≡ seen (recAt s (scanOf s p) index from len) (walkAt s i next (indexes hs))) →
       Skip s i next hs (o .end) fs → Skip s i p gs (o .end) fs
   more-skip {p} {index} {from} {len} {next} gs hs h w r =
       let y = step-fits s p index from len next h in
@@ -78,10 +70,10 @@ module _ (s : List ℕ) (i : ℕ) (o : Open) (fs : List Open) where
   skip [] (done h) q = let z : _≡_ {A = ℕ} 0 1 = cc in absurd (omega arith)
   skip (g ∷ pre) (done h) q = let z : _≡_ {A = ℕ} 0 1 = cc in absurd (omega arith)
   skip pre {p} {gs} (passes {index = index} {from = from} {len = len} {next = next} h r d) q =
-      more-skip gs gs h (λ l. walk-plain s i p (idxs gs) index from len next h l r) (skip pre d q)
+      more-skip gs gs h (λ l. walk-plain s i p (indexes gs) index from len next h l r) (skip pre d q)
   skip pre {p} {gs} (opens {index = index} {from = from} {len = len} {next = next} {end = end} h r g z u m d) q =
       more-skip gs (openAt index end ∷ gs) h
-      (λ l. walk-open s i p (idxs gs) index from len next h l r (let f : length (idxs gs) ≡ length gs = idxs-length gs in omega arith))
+      (λ l. walk-open s i p (indexes gs) index from len next h l r (let f : length (indexes gs) ≡ length gs = length-each (λ o. o .index) gs in omega arith))
       (skip (openAt index end ∷ pre) d (ap (λ (l : List Open). openAt index end ∷ l) q))
   skip [] {p} (closes {index = index} {from = from} {len = len} {next = next} {o = x} {st = gs} h r u d) q =
       let a : x ≡ o = cc in
@@ -98,8 +90,8 @@ module _ (s : List ℕ) (i : ℕ) (o : Open) (fs : List Open) where
         rest = rw c at d;
         walked = λ l.
             through-one (recAt s (scanOf s p) index from len)
-            (walk-close s i p (x .index) (idxs gs) index from len next h (omega arith) r
-            ∙ ap (λ (st : List Open). seen (recAt s (scanOf s p) index from len) (walkAt s i next (idxs st))) c);
+            (walk-close s i p (x .index) (indexes gs) index from len next h (omega arith) r
+            ∙ ap (λ (st : List Open). seen (recAt s (scanOf s p) index from len) (walkAt s i next (indexes st))) c);
       }
   skip (g ∷ pre) {p} (closes {index = index} {from = from} {len = len} {next = next} {o = x} {st = gs} h r u d) q =
-      more-skip _ gs h (λ l. walk-close s i p (x .index) (idxs gs) index from len next h l r) (skip pre d (cc))
+      more-skip _ gs h (λ l. walk-close s i p (x .index) (indexes gs) index from len next h l r) (skip pre d (cc))

@@ -33,7 +33,7 @@ module _ (field : Open → ℕ) where
   each [] = []
   each (o ∷ st) = field o ∷ each st
 
-  length-each : (st : List Open) → length (each st) ≡ length st
+  pub length-each : (st : List Open) → length (each st) ≡ length st
   length-each [] = refl
   length-each (o ∷ st) = ap suc (length-each st)
 
