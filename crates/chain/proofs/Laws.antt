@@ -77,7 +77,7 @@ pub pop-tail : (st : List ℕ) → length st ≤ 64 → (length st ≡ 0 → ⊥
 pop-tail [] h n = absurd (n refl)
 pop-tail (x ∷ st) h n = pop-stack st x (omega arith)
 
-pub length-tail : (st : List ℕ) → length (tail st) ≤ length st
+pub length-tail : {A : Type 0} (st : List A) → length (tail st) ≤ length st
 length-tail [] = omega arith
 length-tail (x ∷ st) = omega arith
 

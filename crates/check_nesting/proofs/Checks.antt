@@ -18,7 +18,7 @@ use Rattle.iter.proofs.Reading.{Stepped, step-fits, read-by, Skips, skips}
 use Rattle.iter.proofs.Records.{bytes-length}
 use Rattle.chain.specs.Chain.{chainOf, topOf}
 use Rattle.chain.specs.declared.Chain.{Chain}
-use Rattle.chain.proofs.Laws.{pushed, popped, push-stack, pop-tail, top-stack, top-none, pushed-is, popped-is}
+use Rattle.chain.proofs.Laws.{pushed, popped, push-stack, pop-tail, length-tail, top-stack, top-none, pushed-is, popped-is}
 use Rattle.act.specs.declared.Act.{Act}
 use Rattle.act.specs.declared.Act.the-variants.{Stay, Push, Pop, Refused as Stop}
 use Rattle.act.specs.Act.{actOf}
@@ -50,10 +50,6 @@ indexes = each (λ o. o .index)
 
 abbrev pub ends : List Open → List ℕ
 ends = each (λ o. o .end)
-
-length-tail : (st : List Open) → length (tail st) ≤ length st
-length-tail [] = omega arith
-length-tail (o ∷ st) = omega arith
 
 top-index : (st : List Open) → length st ≤ 64 → topOf (chainOf (indexes st)) ≡ innerIndex st
 top-index [] h = top-none
