@@ -9,7 +9,6 @@ use native.Mathlib.Omega.{arith}
 use lib.ListN.{length, take, drop}
 use lib.Dec.{leb, eqb}
 use borrow.Author.Tests.{leb-false, eqb-true, eqb-false, ne-eqb}
-use Rattle.common.specs.declared.Refusal.{Refusal}
 use Rattle.constants.specs.declared.Role.{Role}
 use Rattle.constants.specs.declared.Role.the-variants.{Neither, Opens, Closes}
 use Rattle.iter.specs.Step.{scanOf}
@@ -25,8 +24,9 @@ use Rattle.act.specs.declared.Act.{Act}
 use Rattle.act.specs.declared.Act.the-variants.{Push, Pop, Refused as Stop}
 use Rattle.act.specs.Act.{openOf, actOfRole, actOf}
 use Rattle.check_nesting.specs.declared.Counts.{Counts}
-use Rattle.check_nesting.specs.declared.Checked.the-variants.{Good, Refused as Refuse}
+use Rattle.check_nesting.specs.declared.Checked.the-variants.{Good}
 use Rattle.check_nesting.specs.Check.{Open, innerIndex, innerEnd, noCounts, onAct, endOf, onLast, checkOn, checkFrom, checkOf}
+use Rattle.check_nesting.proofs.Sums.{refused-not-good}
 
 -- the bytes of a record
 abbrev pub bytesAt : List ℕ → ℕ → ℕ → List ℕ
@@ -46,9 +46,6 @@ pub data Nest (s : List ℕ) : ℕ → List Open → Type 0 where
   closes : {p index from len next : ℕ} {o : Open} {st : List Open} → scanOf s p .next ≡ N.Record index from len next →
       nestingRoleOf (bytesAt s from len) ≡ Closes → o .end ≡ index → Nest s next st → Nest s p (o ∷ st)
 
-not-good : {e : Refusal} {n : Counts} → Refuse e ≡ Good n → ⊥
-not-good q = let z : _≡_ {A = ℕ} 0 1 = cc in omega arith
-
 module _ (s : List ℕ) (u : Counts) where
   abbrev Nests : ℕ → Reading → Type 0
   Nests at r = (st : List Open) (n : Counts) → checkFrom r st n ≡ Good u → Nest s at st
@@ -63,27 +60,27 @@ module _ (s : List ℕ) (u : Counts) where
 
     at-opener : (st : List Open) (n : Counts) → nestingRoleOf bytes ≡ Opens → (l : Links) → linksOf bytes ≡ l →
         Then st n (openOf l index (length st) (innerIndex st)) → Nest s at st
-    at-opener st n o Unread g h = absurd (not-good h)
+    at-opener st n o Unread g h = absurd (refused-not-good h)
     at-opener st n o (Read parent end) g h = by (eqb index 0) refl (eqb parent (innerIndex st)) refl (leb 64 (length st)) refl h
       where
         by : (a : Bool) → eqb index 0 ≡ a → (b : Bool) → eqb parent (innerIndex st) ≡ b → (c : Bool) → leb 64 (length st) ≡ c →
             Then st n (cond a (Stop 7) (cond b (cond c (Stop 9) (Push end)) (Stop 8))) → Nest s at st
-        by true ea b eb c ec t = absurd (not-good t)
-        by false ea false eb c ec t = absurd (not-good t)
-        by false ea true eb true ec t = absurd (not-good t)
+        by true ea b eb c ec t = absurd (refused-not-good t)
+        by false ea false eb c ec t = absurd (refused-not-good t)
+        by false ea true eb true ec t = absurd (refused-not-good t)
         by false ea true eb false ec t =
             let f : ¬ (index ≡ 0) = eqb-false index 0 ea in
             opens e o g (omega arith) (eqb-true _ _ eb) (leb-false _ _ ec) (ih _ _ t)
 
     at-closer : (st : List Open) (n : Counts) → nestingRoleOf bytes ≡ Closes →
         Then st n (cond (eqb (length st) 0) (Stop 10) (cond (eqb (innerEnd st) index) Pop (Stop 11))) → Nest s at st
-    at-closer [] n o h = absurd (not-good h)
+    at-closer [] n o h = absurd (refused-not-good h)
     at-closer (x ∷ st) n o h = by (eqb (suc (length st)) 0) (eqb (x .end) index) refl h
       where
         by : (a b : Bool) → eqb (x .end) index ≡ b → Then (x ∷ st) n (cond a (Stop 10) (cond b Pop (Stop 11))) → Nest s at (x ∷ st)
-        by true b eb t = absurd (not-good t)
+        by true b eb t = absurd (refused-not-good t)
         by false true eb t = closes e o (eqb-true _ _ eb) (ih st _ t)
-        by false false eb t = absurd (not-good t)
+        by false false eb t = absurd (refused-not-good t)
 
     at-role : (st : List Open) (n : Counts) (ro : Role) → nestingRoleOf bytes ≡ ro →
         Then st n (actOfRole ro bytes index (length st) (innerIndex st) (innerEnd st)) → Nest s at st
@@ -98,14 +95,14 @@ module _ (s : List ℕ) (u : Counts) where
   at-last : (at q : ℕ) → scanOf s at .next ≡ N.End q → (st : List Open) (n : Counts) → onLast (scanOf s at) (N.End q) st n ≡ Good u → Nest s at st
   unfolding endOf
   at-last at q e [] n h = done e
-  at-last at q e (o ∷ st) n h = absurd (not-good (rw (ne-eqb (suc (length st)) 0 (omega arith)) at h))
+  at-last at q e (o ∷ st) n h = absurd (refused-not-good (rw (ne-eqb (suc (length st)) 0 (omega arith)) at h))
 
   nests : (at : ℕ) → Nests at (readOf s at)
   unfolding checkFrom checkOn
   nests =
       read-ind s Nests
       (λ at q e st n h. at-last at q e st n (ap (λ (x : Next). onLast (scanOf s at) x st n) (sym e) ∙ h))
-      (λ at x e st n h. absurd (not-good (ap (λ (y : Next). onLast (scanOf s at) y st n) (sym e) ∙ h)))
+      (λ at x e st n h. absurd (refused-not-good (ap (λ (y : Next). onLast (scanOf s at) y st n) (sym e) ∙ h)))
       at-record
 
   pub check-nests : (start : ℕ) → checkOf s start ≡ Good u → Nest s start []

@@ -23,14 +23,15 @@ use Rattle.check_nesting.specs.declared.Checked.{Checked}
 use Rattle.check_nesting.specs.declared.Checked.the-variants.{Good, Refused as Refuse}
 use Rattle.check_nesting.specs.Check.{Open, innerIndex, innerEnd, noCounts, countedOf, openedOf, countRec, onAct, endOf, onLast, checkOn, checkFrom, checkOf, addsUp}
 
+-- a check that refuses does not pass
+pub refused-not-good : {e : Refusal} {n : Counts} → Refuse e ≡ Good n → ⊥
+refused-not-good q = let z : _≡_ {A = ℕ} 0 1 = cc in omega arith
+
 module _ (last : Scan) (m : Counts) where
   -- a check that passes: what was counted and what is left make the sums of the answer, and the last step does not refuse
   record Sums (rs : List Rec) (n : Counts) : Type 0 where
     total : n .bytes + n .skipped + (bytesOfRecords rs + last .skipped) ≡ m .bytes + m .skipped
     passes : (e : Refusal) → last .next ≡ Refused e → ⊥
-
-  never : {A : Type 0} (e : Refusal) → Refuse e ≡ Good m → A
-  never e g = absurd (let z : _≡_ {A = ℕ} 0 1 = cc in omega arith)
 
   end-total : (n : Counts) (passed depth inner : ℕ) → endOf n passed (last .skipped) depth inner ≡ Good m → n .bytes + n .skipped + (0 + last .skipped) ≡ m .bytes + m .skipped
   unfolding endOf
@@ -45,12 +46,12 @@ module _ (last : Scan) (m : Counts) where
 
       by : (b : Bool) → cond b (Good counted) (Refuse (refusal 12 inner 0)) ≡ Good m → n .bytes + n .skipped + (0 + last .skipped) ≡ m .bytes + m .skipped
       by true g = let q : n .bytes + (n .skipped + last .skipped) ≡ m .bytes + m .skipped = ap sumOf g in omega arith
-      by false g = never _ g
+      by false g = absurd (refused-not-good g)
 
   last-sums : (x : Next) → last .next ≡ x → (st : List Open) (n : Counts) → onLast last x st n ≡ Good m → Sums [] n
   last-sums (End p) q st n g =
       record { total = end-total n _ _ _ g; passes = λ e h. absurd (let z : _≡_ {A = ℕ} 0 1 = cc in omega arith) }
-  last-sums (Refused e) q st n g = never e g
+  last-sums (Refused e) q st n g = absurd (refused-not-good g)
   last-sums (Record i a l t) q st n g =
       record { total = end-total n _ _ _ g; passes = λ e h. absurd (let z : _≡_ {A = ℕ} 0 1 = cc in omega arith) }
 
@@ -62,7 +63,7 @@ module _ (last : Scan) (m : Counts) where
       let y = ih (record { index = r .index; end = end } ∷ st) (openedOf (countRec n r) (length st)) g in
       record { total = omega (arith, y .total); passes = y .passes }
   act-sums r rs ih st n Pop g = let y = ih (tail st) (countRec n r) g in record { total = omega (arith, y .total); passes = y .passes }
-  act-sums r rs ih st n (Stop k) g = never _ g
+  act-sums r rs ih st n (Stop k) g = absurd (refused-not-good g)
 
   sums-on : (rs : List Rec) (st : List Open) (n : Counts) → checkOn last rs st n ≡ Good m → Sums rs n
   unfolding checkOn
