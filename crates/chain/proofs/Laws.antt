@@ -48,20 +48,30 @@ stored st y x = set-at (reverse st) y _ x (length st) (length-reverse st)
 at-stack : (st : List ℕ) (y x : ℕ) (l : List ℕ) → l ≡ reverse st ++ y ∷ none (64 - suc (length st)) → set l (length st) x ≡ reverse st ++ x ∷ none (64 - suc (length st))
 at-stack st y x l e = ap (λ (k : List ℕ). set k (length st) x) e ∙ stored st y x
 
-pub push-stack : (st : List ℕ) (x : ℕ) → length st < 64 → pushed (chainOf st) x ≡ chainOf (x ∷ st)
+-- the chain of a stack: its count, and what a push onto it and a pop from it make
+pub stack-depth : {c : Chain} (st : List ℕ) → c ≡ chainOf st → c .depth ≡ length st
+unfolding chainOf
+stack-depth st = ap (λ (c : Chain). c .depth)
+
+pub push-stack : {c : Chain} (st : List ℕ) (x : ℕ) → c ≡ chainOf st → length st < 64 → pushed c x ≡ chainOf (x ∷ st)
 unfolding pushed chainOf
-push-stack st x h =
-    rw (lt-leb 64 (length st) h)
+push-stack st x e h =
+    ap (λ (c : Chain). pushed c x) e
+    ∙ rw (lt-leb 64 (length st) h)
     (λ i. record { at = (at-stack st 0 x _ (sym (unused st h)) ∙ sym (places x st)) i; depth = add-one (length st) i })
 
 sub-one-suc : (n : ℕ) → suc n - 1 ≡ n
 sub-one-suc n = omega arith
 
-pub pop-stack : (st : List ℕ) (x : ℕ) → length st < 64 → popped (chainOf (x ∷ st)) ≡ chainOf st
+pop-first : (st : List ℕ) (x : ℕ) → length st < 64 → popped (chainOf (x ∷ st)) ≡ chainOf st
 unfolding popped chainOf
-pop-stack st x h =
+pop-first st x h =
     rw (ne-eqb (suc (length st)) 0 (omega arith), sub-one-suc (length st), lt-leb 64 (length st) h)
     (λ i. record { at = (at-stack st x 0 _ (places x st) ∙ unused st h) i; depth = length st })
+
+pub pop-stack : {c : Chain} (st : List ℕ) → c ≡ chainOf st → length st ≤ 64 → (length st ≡ 0 → ⊥) → popped c ≡ chainOf (tail st)
+pop-stack [] e h n = absurd (n refl)
+pop-stack (x ∷ st) e h n = ap popped e ∙ pop-first st x (omega arith)
 
 pub top-stack : (st : List ℕ) (x : ℕ) → length st < 64 → topOf (chainOf (x ∷ st)) ≡ x
 unfolding topOf chainOf
@@ -72,10 +82,6 @@ top-stack st x h =
 pub top-none : topOf (chainOf []) ≡ 0
 unfolding topOf chainOf
 top-none = refl
-
-pub pop-tail : (st : List ℕ) → length st ≤ 64 → (length st ≡ 0 → ⊥) → popped (chainOf st) ≡ chainOf (tail st)
-pop-tail [] h n = absurd (n refl)
-pop-tail (x ∷ st) h n = pop-stack st x (omega arith)
 
 pub length-tail : {A : Type 0} (st : List A) → length (tail st) ≤ length st
 length-tail [] = omega arith

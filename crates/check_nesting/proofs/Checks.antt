@@ -18,7 +18,7 @@ use Rattle.iter.proofs.Reading.{Stepped, step-fits, read-by, Skips, skips}
 use Rattle.iter.proofs.Records.{bytes-length}
 use Rattle.chain.specs.Chain.{chainOf, topOf}
 use Rattle.chain.specs.declared.Chain.{Chain}
-use Rattle.chain.proofs.Laws.{pushed, popped, push-stack, pop-tail, length-tail, top-stack, top-none, pushed-is, popped-is}
+use Rattle.chain.proofs.Laws.{stack-depth, push-stack, pop-stack, length-tail, top-stack, top-none, pushed-is, popped-is}
 use Rattle.act.specs.declared.Act.{Act}
 use Rattle.act.specs.declared.Act.the-variants.{Stay, Push, Pop, Refused as Stop}
 use Rattle.act.specs.Act.{actOf}
@@ -132,8 +132,7 @@ pub record Yields (s : List ℕ) (start : ℕ) (opens : Chain) (ends-of : List �
 
 module _ {s : List ℕ} {start : ℕ} {opens : Chain} {ends-of : List ℕ} {n : Counts} {at : ℕ} {c : Scan} (t : Turn s start opens ends-of n at c) where
   depth : opens .depth ≡ length (t .inv .stack)
-  unfolding chainOf
-  depth = ap (λ (x : Chain). x .depth) (t .inv .is-opens) ∙ length-each (λ o. o .index) (t .inv .stack)
+  depth = stack-depth (indexes (t .inv .stack)) (t .inv .is-opens) ∙ length-each (λ o. o .index) (t .inv .stack)
 
   pub depth-most : opens .depth ≤ 64
   depth-most = omega (arith, depth, t .inv .most)
@@ -231,13 +230,11 @@ module _ {s : List ℕ} {start : ℕ} {opens : Chain} {ends-of : List ℕ} {n : 
         stack = tail stack;
         is-opens =
             popped-is opens z (depth-most (y .turn))
-            ∙ ap popped (y .turn .inv .is-opens)
-            ∙ pop-tail (indexes stack) (omega (arith, y .turn .inv .most)) (λ q. z (omega arith))
+            ∙ pop-stack (indexes stack) (y .turn .inv .is-opens) (omega (arith, y .turn .inv .most)) (λ q. z (omega arith))
             ∙ ap chainOf (tail-each (λ o. o .index) stack);
         is-ends =
             popped-is (record { at = ends-of; depth = opens .depth }) z (depth-most (y .turn))
-            ∙ ap popped (y .turn .inv .is-ends)
-            ∙ pop-tail (ends stack) (omega (arith, y .turn .inv .most)) (λ q. z (omega arith))
+            ∙ pop-stack (ends stack) (y .turn .inv .is-ends) (omega (arith, y .turn .inv .most)) (λ q. z (omega arith))
             ∙ ap chainOf (tail-each (λ o. o .end) stack);
         most = omega (arith, y .turn .inv .most, length-tail stack);
         same = ap (λ (m : Counts). checkFrom (readOf s next) (tail stack) m) (sym counts) ∙ left Pop ea;
@@ -262,12 +259,10 @@ module _ {s : List ℕ} {start : ℕ} {opens : Chain} {ends-of : List ℕ} {n : 
         stack = record { index = index; end = end } ∷ stack;
         is-opens =
             pushed-is opens index h
-            ∙ ap (λ (x : Chain). pushed x index) (y .turn .inv .is-opens)
-            ∙ push-stack (indexes stack) index (omega arith);
+            ∙ push-stack (indexes stack) index (y .turn .inv .is-opens) (omega arith);
         is-ends =
             pushed-is (record { at = ends-of; depth = opens .depth }) end h
-            ∙ ap (λ (x : Chain). pushed x end) (y .turn .inv .is-ends)
-            ∙ push-stack (ends stack) end (omega arith);
+            ∙ push-stack (ends stack) end (y .turn .inv .is-ends) (omega arith);
         most = omega arith;
         same =
             ap (λ (m : Counts). checkFrom (readOf s next) (record { index = index; end = end } ∷ stack) m)

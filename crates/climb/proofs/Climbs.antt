@@ -9,7 +9,7 @@ use borrow.Author.Tests.{le-leb, lt-leb, eq-eqb, ne-eqb}
 use Rattle.common.specs.declared.Refusal.{Refusal}
 use Rattle.chain.specs.Chain.{chainOf}
 use Rattle.chain.specs.declared.Chain.{Chain}
-use Rattle.chain.proofs.Laws.{pushed, push-stack}
+use Rattle.chain.proofs.Laws.{pushed, stack-depth, push-stack}
 use Rattle.opener.specs.declared.Opener.{Opener}
 use Rattle.opener.specs.declared.Opener.the-variants as O
 use Rattle.opener.specs.Opener.{openerOf}
@@ -46,23 +46,19 @@ pub climbing-first : (s : List ℕ) (i first : ℕ) (chain : Chain) → chain �
 climbing-first s i first chain e = record { links = []; is-chain = e; most = omega arith; same = refl }
 
 module _ (s : List ℕ) (i first : ℕ) (chain : Chain) (index parent : ℕ) (g : Climbing s i first chain index parent) where
-  depth-is : chain .depth ≡ length (g .links)
-  unfolding chainOf
-  depth-is = ap (λ (c : Chain). c .depth) (g .is-chain)
-
   pub at-top : parent ≡ 0 → reachedBy chain ≡ climbOn 64 s i first []
   at-top e = ap reachedBy (g .is-chain) ∙ sym (g .same ∙ climb-top s index parent (g .links) (64 - length (g .links)) e)
 
   pub at-full : ¬ (parent ≡ 0) → 64 ≤ chain .depth → halts 9 ≡ climbOn 64 s i first []
   at-full z h =
-      let none : 64 - length (g .links) ≡ 0 = omega (arith, depth-is) in
+      let none : 64 - length (g .links) ≡ 0 = omega (arith, stack-depth (g .links) (g .is-chain)) in
       sym (g .same ∙ ap (λ (n : ℕ). climbOn n s index parent (g .links)) none ∙ climb-full s index parent (g .links) z)
 
   -- with room for one more link
   module _ (z : ¬ (parent ≡ 0)) (h : chain .depth < 64) where
     left : climbOn 64 s i first [] ≡ climbOn (suc (63 - length (g .links))) s index parent (g .links)
     left =
-        let one : 64 - length (g .links) ≡ suc (63 - length (g .links)) = omega (arith, depth-is) in
+        let one : 64 - length (g .links) ≡ suc (63 - length (g .links)) = omega (arith, stack-depth (g .links) (g .is-chain)) in
         g .same ∙ ap (λ (n : ℕ). climbOn n s index parent (g .links)) one
 
     pub at-above : index ≤ parent → halts 13 ≡ climbOn 64 s i first []
@@ -73,10 +69,10 @@ module _ (s : List ℕ) (i first : ℕ) (chain : Chain) (index parent : ℕ) (g 
 
     pub going-up : parent < index → (next : ℕ) → openerOf s parent ≡ O.Parent next → (ch : Chain) → ch ≡ pushed chain parent → Climbing s i first ch parent next
     going-up l next o ch ec =
-        let room : length (g .links) < 64 = omega (arith, depth-is) in
+        let room : length (g .links) < 64 = omega (arith, stack-depth (g .links) (g .is-chain)) in
         record {
           links = parent ∷ g .links;
-          is-chain = ec ∙ ap (λ (c : Chain). pushed c parent) (g .is-chain) ∙ push-stack (g .links) parent room;
+          is-chain = ec ∙ push-stack (g .links) parent (g .is-chain) room;
           most = room;
           same =
               left

@@ -1,13 +1,13 @@
 -- The invariant of a finder's loop, for the walk finder and the jump finder alike.
 -- Assumes nothing.
 use mathlib.Core.Path.{_≡_, refl, _∙_, ap}
-use mathlib.Core.List.{List, [], _∷_}
-use Prim.Native.Nat.{ℕ, _+_, _-_, _≤_, _<_}
+use mathlib.Core.List.{List, []}
+use Prim.Native.Nat.{ℕ, _+_, _-_, _≤_}
 use native.Mathlib.Omega.{arith}
 use lib.ListN.{length}
 use Rattle.chain.specs.Chain.{chainOf}
 use Rattle.chain.specs.declared.Chain.{Chain}
-use Rattle.chain.proofs.Laws.{pushed, push-stack}
+use Rattle.chain.proofs.Laws.{stack-depth}
 use Rattle.finding.specs.Finding.{Walk, answerOf, findingOf}
 
 -- F is the walk from a position with a stack, and L the stream's length. The chain is that of a stack, and the walk from the start
@@ -26,12 +26,8 @@ going-first F L start chain e =
     record { stack = []; is-chain = e; most = omega arith; outs = refl; stacks = refl; counts = omega arith; few = omega arith }
 
 module _ (F : ℕ → List ℕ → Walk) (L start : ℕ) (chain : Chain) (at read : ℕ) (g : Going F L start chain at read) where
-  pub depth-is : chain .depth ≡ length (g .stack)
-  unfolding chainOf
-  depth-is = ap (λ (c : Chain). c .depth) (g .is-chain)
-
   pub depth-most : chain .depth ≤ 64
-  depth-most = rw depth-is (g .most)
+  depth-most = rw (stack-depth (g .stack) (g .is-chain)) (g .most)
 
   -- the answer, where the walk that is left is w
   pub ends : (w : Walk) → F at (g .stack) ≡ w → answerOf (w .out) (w .stack) (read + length (w .visited)) ≡ findingOf (F start [])
@@ -52,6 +48,3 @@ module _ (F : ℕ → List ℕ → Walk) (L start : ℕ) (chain : Chain) (at rea
         counts = omega (arith, g .counts, v);
         few = omega (arith, g .few);
       }
-
-  pub pushed-chain : (x : ℕ) (ch : Chain) → ch ≡ pushed chain x → length (g .stack) < 64 → ch ≡ chainOf (x ∷ g .stack)
-  pushed-chain x ch e h = e ∙ ap (λ (c : Chain). pushed c x) (g .is-chain) ∙ push-stack (g .stack) x h

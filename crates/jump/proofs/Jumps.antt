@@ -14,10 +14,10 @@ use Rattle.iter.specs.declared.Next.{Next}
 use Rattle.iter.specs.declared.Next.the-variants as N
 use Rattle.iter.proofs.Reading.{Stepped, step-fits}
 use Rattle.chain.specs.Chain.{chainOf}
-use Rattle.chain.proofs.Laws.{pushed}
+use Rattle.chain.proofs.Laws.{pushed, stack-depth, push-stack}
 use Rattle.chain.specs.declared.Chain.{Chain}
 use Rattle.finding.specs.Finding.{Walk, seen, foundBy, refusedBy, answerOf}
-use Rattle.finding.proofs.Goings.{Going, depth-is, ends, onward, pushed-chain}
+use Rattle.finding.proofs.Goings.{Going, ends, onward}
 use Rattle.hop.specs.declared.Hop.{Hop}
 use Rattle.hop.specs.declared.Hop.the-variants.{Stay, Push, Over, Found, Stop}
 use Rattle.hop.specs.declared.Land.{Land}
@@ -95,7 +95,7 @@ module _ (s : List ℕ) (start i : ℕ) (chain : Chain) (at read : ℕ) (g : Jum
     hop-is : hopOf i index next (r .bytes) (length (g .stack)) ≡ hop
     hop-is =
         let long : next - from ≡ len = omega (arith, fits) in
-        rw (long, depth-is (jumpFrom s i) (length s) start chain at read g)
+        rw (long, stack-depth (g .stack) (g .is-chain))
 
     -- the walk that is left, at each hop
     left : (h : Hop) → hop ≡ h → jumpFrom s i at (g .stack) ≡ onHop s r next (g .stack) h (jumpFrom s i)
@@ -113,7 +113,7 @@ module _ (s : List ℕ) (start i : ℕ) (chain : Chain) (at read : ℕ) (g : Jum
     pub going-push : (ch : Chain) → ch ≡ pushed chain index → hop ≡ Push → Jumping s start i ch next (read + 1)
     going-push ch ec eh =
         let h : length (g .stack) < 64 = push-room i index next (r .bytes) (length (g .stack)) (hop-is ∙ eh) in
-        on-with (index ∷ g .stack) ch (pushed-chain (jumpFrom s i) (length s) start chain at read g index ch ec h) h (left Push eh)
+        on-with (index ∷ g .stack) ch (ec ∙ push-stack (g .stack) index (g .is-chain) h) h (left Push eh)
 
     landed : (end : ℕ) → hop ≡ Over end → (l : Land) → landOf s end ≡ l →
         jumpFrom s i at (g .stack) ≡ seen r (onLand (yieldedAt s end) (g .stack) l (jumpFrom s i))

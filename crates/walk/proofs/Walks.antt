@@ -20,13 +20,13 @@ use Rattle.iter.specs.declared.Next.the-variants as N
 use Rattle.iter.proofs.Reading.{Stepped, step-fits, read-by}
 use Rattle.chain.specs.Chain.{chainOf}
 use Rattle.chain.specs.declared.Chain.{Chain}
-use Rattle.chain.proofs.Laws.{pushed, popped, pop-tail, length-tail}
+use Rattle.chain.proofs.Laws.{pushed, popped, stack-depth, push-stack, pop-stack, length-tail}
 use Rattle.kind.specs.Raw.{nestingRoleOf}
 use Rattle.walk.specs.declared.Turn.{Turn}
 use Rattle.walk.specs.declared.Turn.the-variants.{Stay, Push, Pop, Found, Stop}
 use Rattle.finding.specs.Finding.{Walk, seen, refuses, stops, foundBy, refusedBy, answerOf}
 use Rattle.walk.specs.Walk.{turnOfRole, turnOf, onTurn, walkLast, walkOn, walkFrom, walkOf}
-use Rattle.finding.proofs.Goings.{Going, depth-is, ends, onward, pushed-chain}
+use Rattle.finding.proofs.Goings.{Going, ends, onward}
 
 -- an opener is pushed only below 64, and a closer pops only where one is open
 abbrev Room : ℕ → Turn → Type 0
@@ -112,7 +112,7 @@ module _ (s : List ℕ) (start i : ℕ) (chain : Chain) (at read : ℕ) (g : Wal
     turn-is : turnOf i index (r .bytes) (length (g .stack)) ≡ turn
     turn-is =
         let long : next - from ≡ len = omega (arith, fits) in
-        rw (long, depth-is (walkAt s i) (length s) start chain at read g)
+        rw (long, stack-depth (g .stack) (g .is-chain))
 
     -- the walk that is left, at each turn
     left : (t : Turn) → turn ≡ t → walkAt s i at (g .stack) ≡ onTurn r (g .stack) t (walkAt s i next)
@@ -130,12 +130,12 @@ module _ (s : List ℕ) (start i : ℕ) (chain : Chain) (at read : ℕ) (g : Wal
     pub going-push : (ch : Chain) → ch ≡ pushed chain index → turn ≡ Push → Walking s start i ch next (read + 1)
     going-push ch ec et =
         let h : length (g .stack) < 64 = push-room i index (r .bytes) (length (g .stack)) (turn-is ∙ et) in
-        on-with (index ∷ g .stack) ch (pushed-chain (walkAt s i) (length s) start chain at read g index ch ec h) h (left Push et)
+        on-with (index ∷ g .stack) ch (ec ∙ push-stack (g .stack) index (g .is-chain) h) h (left Push et)
 
     pub going-pop : (ch : Chain) → ch ≡ popped chain → turn ≡ Pop → Walking s start i ch next (read + 1)
     going-pop ch ec et =
         let h : length (g .stack) ≡ 0 → ⊥ = pop-room i index (r .bytes) (length (g .stack)) (turn-is ∙ et) in
-        on-with (tail (g .stack)) ch (ec ∙ ap popped (g .is-chain) ∙ pop-tail (g .stack) (g .most) h)
+        on-with (tail (g .stack)) ch (ec ∙ pop-stack (g .stack) (g .is-chain) (g .most) h)
         (omega (arith, g .most, length-tail (g .stack))) (left Pop et)
 
     pub at-found : turn ≡ Found → foundBy chain (read + 1) ≡ walkOf s start i
