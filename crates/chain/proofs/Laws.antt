@@ -5,24 +5,19 @@ use mathlib.Core.List.{List, [], _∷_, _++_, tail, reverse, reverse-cons, appen
 use Prim.Native.Nat.{ℕ, suc, _+_, _-_, _≤_, _<_}
 use native.Mathlib.Omega.{arith}
 use native.Mathlib.Numerals.{add-one}
-use mathlib.Core.Bool.{cond}
 use lib.ListN.{length, set, getD, replicate, length-reverse}
-use lib.Dec.{leb, eqb}
 use lib.Seq.{set-at, getD-at}
 use borrow.Author.Tests.{lt-leb, ne-eqb}
 use Rattle.chain.specs.Chain.{chainOf, topOf}
 use Rattle.chain.specs.declared.Chain.{Chain}
 
--- one position more, behind the others; a full chain stays as it is
-unfoldable pub pushed : Chain → ℕ → Chain
-pushed c x = cond (leb 64 (c .depth)) c (record { at = set (c .at) (c .depth) x; depth = c .depth + 1 })
+-- one position more, behind the others
+abbrev pub pushed : Chain → ℕ → Chain
+pushed c x = record { at = set (c .at) (c .depth) x; depth = c .depth + 1 }
 
--- one position less: the last one's place is 0 again; a chain of none stays as it is
-unfoldable pub popped : Chain → Chain
-popped c =
-    cond (eqb (c .depth) 0) c
-    (cond (leb 64 (c .depth - 1)) c
-    (record { at = set (c .at) (c .depth - 1) 0; depth = c .depth - 1 }))
+-- one position less: the last one's place is 0 again
+abbrev pub popped : Chain → Chain
+popped c = record { at = set (c .at) (c .depth - 1) 0; depth = c .depth - 1 }
 
 -- n unused places
 abbrev none : ℕ → List ℕ
@@ -54,24 +49,21 @@ unfolding chainOf
 stack-depth st = ap (λ (c : Chain). c .depth)
 
 pub push-stack : {c : Chain} (st : List ℕ) (x : ℕ) → c ≡ chainOf st → length st < 64 → pushed c x ≡ chainOf (x ∷ st)
-unfolding pushed chainOf
+unfolding chainOf
 push-stack st x e h =
     ap (λ (c : Chain). pushed c x) e
-    ∙ rw (lt-leb 64 (length st) h)
-    (λ i. record { at = (at-stack st 0 x _ (sym (unused st h)) ∙ sym (places x st)) i; depth = add-one (length st) i })
+    ∙ (λ i. record { at = (at-stack st 0 x _ (sym (unused st h)) ∙ sym (places x st)) i; depth = add-one (length st) i })
 
 sub-one-suc : (n : ℕ) → suc n - 1 ≡ n
 sub-one-suc n = omega arith
 
-pop-first : (st : List ℕ) (x : ℕ) → length st < 64 → popped (chainOf (x ∷ st)) ≡ chainOf st
-unfolding popped chainOf
-pop-first st x h =
-    rw (ne-eqb (suc (length st)) 0 (omega arith), sub-one-suc (length st), lt-leb 64 (length st) h)
-    (λ i. record { at = (at-stack st x 0 _ (places x st) ∙ unused st h) i; depth = length st })
-
-pub pop-stack : {c : Chain} (st : List ℕ) → c ≡ chainOf st → length st ≤ 64 → (length st ≡ 0 → ⊥) → popped c ≡ chainOf (tail st)
-pop-stack [] e h n = absurd (n refl)
-pop-stack (x ∷ st) e h n = ap popped e ∙ pop-first st x (omega arith)
+pub pop-stack : {c : Chain} (st : List ℕ) → c ≡ chainOf st → length st ≤ 64 → popped c ≡ chainOf (tail st)
+unfolding chainOf
+pop-stack [] e h = ap popped e
+pop-stack (x ∷ st) e h =
+    ap popped e
+    ∙ rw (sub-one-suc (length st))
+    (λ i. record { at = (at-stack st x 0 _ (places x st) ∙ unused st (let l : length st < 64 = omega arith in l)) i; depth = length st })
 
 pub top-stack : (st : List ℕ) (x : ℕ) → length st < 64 → topOf (chainOf (x ∷ st)) ≡ x
 unfolding topOf chainOf
@@ -86,12 +78,3 @@ top-none = refl
 pub length-tail : {A : Type 0} (st : List A) → length (tail st) ≤ length st
 length-tail [] = omega arith
 length-tail (x ∷ st) = omega arith
-
--- the stores that push and pop make
-pub pushed-is : (c : Chain) (x : ℕ) → c .depth < 64 → record { at = set (c .at) (c .depth) x; depth = c .depth + 1 } ≡ pushed c x
-unfolding pushed
-pushed-is c x h = rw (lt-leb 64 (c .depth) h)
-
-pub popped-is : (c : Chain) → (c .depth ≡ 0 → ⊥) → c .depth ≤ 64 → record { at = set (c .at) (c .depth - 1) 0; depth = c .depth - 1 } ≡ popped c
-unfolding popped
-popped-is c z h = rw (ne-eqb (c .depth) 0 z, lt-leb 64 (c .depth - 1) (omega arith))

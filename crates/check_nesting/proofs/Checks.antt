@@ -18,7 +18,7 @@ use Rattle.iter.proofs.Reading.{Stepped, step-fits, read-by, Skips, skips}
 use Rattle.iter.proofs.Records.{bytes-length}
 use Rattle.chain.specs.Chain.{chainOf, topOf}
 use Rattle.chain.specs.declared.Chain.{Chain}
-use Rattle.chain.proofs.Laws.{stack-depth, push-stack, pop-stack, length-tail, top-stack, top-none, pushed-is, popped-is}
+use Rattle.chain.proofs.Laws.{pushed, popped, stack-depth, push-stack, pop-stack, length-tail, top-stack, top-none}
 use Rattle.act.specs.declared.Act.{Act}
 use Rattle.act.specs.declared.Act.the-variants.{Stay, Push, Pop, Refused as Stop}
 use Rattle.act.specs.Act.{actOf}
@@ -216,25 +216,18 @@ module _ {s : List ℕ} {start : ℕ} {opens : Chain} {ends-of : List ℕ} {n : 
 
   -- the stack after the stores that a push and a pop make
   pub go-pop : act ≡ Pop →
-      Checking s start
-      (record { at = set (opens .at) (opens .depth - 1) 0; depth = opens .depth - 1 })
-      (set ends-of (opens .depth - 1) 0)
-      (countedOf n (c .passed) (c .skipped) len) next
+      Checking s start (popped opens) (set ends-of (opens .depth - 1) 0) (countedOf n (c .passed) (c .skipped) len) next
   unfolding countedOf
   go-pop ea =
-      let z : opens .depth ≡ 0 → ⊥ = pop-room ea in
-      let d = depth (y .turn) in
       let li = length-each (λ o. o .index) stack in
       let le = length-each (λ o. o .end) stack in
       record {
         stack = tail stack;
         is-opens =
-            popped-is opens z (depth-most (y .turn))
-            ∙ pop-stack (indexes stack) (y .turn .inv .is-opens) (omega (arith, y .turn .inv .most)) (λ q. z (omega arith))
+            pop-stack (indexes stack) (y .turn .inv .is-opens) (omega (arith, y .turn .inv .most))
             ∙ ap chainOf (tail-each (λ o. o .index) stack);
         is-ends =
-            popped-is (record { at = ends-of; depth = opens .depth }) z (depth-most (y .turn))
-            ∙ pop-stack (ends stack) (y .turn .inv .is-ends) (omega (arith, y .turn .inv .most)) (λ q. z (omega arith))
+            pop-stack (ends stack) (y .turn .inv .is-ends) (omega (arith, y .turn .inv .most))
             ∙ ap chainOf (tail-each (λ o. o .end) stack);
         most = omega (arith, y .turn .inv .most, length-tail stack);
         same = ap (λ (m : Counts). checkFrom (readOf s next) (tail stack) m) (sym counts) ∙ left Pop ea;
@@ -245,10 +238,7 @@ module _ {s : List ℕ} {start : ℕ} {opens : Chain} {ends-of : List ℕ} {n : 
       }
 
   pub go-push : {end : ℕ} → act ≡ Push end →
-      Checking s start
-      (record { at = set (opens .at) (opens .depth) index; depth = opens .depth + 1 })
-      (set ends-of (opens .depth) end)
-      (openedOf (countedOf n (c .passed) (c .skipped) len) (opens .depth)) next
+      Checking s start (pushed opens index) (set ends-of (opens .depth) end) (openedOf (countedOf n (c .passed) (c .skipped) len) (opens .depth)) next
   unfolding countedOf openedOf
   go-push {end} ea =
       let h : opens .depth < 64 = push-room ea in
@@ -257,12 +247,8 @@ module _ {s : List ℕ} {start : ℕ} {opens : Chain} {ends-of : List ℕ} {n : 
       let le = length-each (λ o. o .end) stack in
       record {
         stack = record { index = index; end = end } ∷ stack;
-        is-opens =
-            pushed-is opens index h
-            ∙ push-stack (indexes stack) index (y .turn .inv .is-opens) (omega arith);
-        is-ends =
-            pushed-is (record { at = ends-of; depth = opens .depth }) end h
-            ∙ push-stack (ends stack) end (y .turn .inv .is-ends) (omega arith);
+        is-opens = push-stack (indexes stack) index (y .turn .inv .is-opens) (omega arith);
+        is-ends = push-stack (ends stack) end (y .turn .inv .is-ends) (omega arith);
         most = omega arith;
         same =
             ap (λ (m : Counts). checkFrom (readOf s next) (record { index = index; end = end } ∷ stack) m)

@@ -67,12 +67,12 @@ module _ (s : List ℕ) (i first : ℕ) (chain : Chain) (index parent : ℕ) (g 
     pub at-missing : parent < index → (e : Refusal) → openerOf s parent ≡ O.Refused e → halts 13 ≡ climbOn 64 s i first []
     at-missing l e o = sym (left ∙ climb-below s index parent (g .links) (63 - length (g .links)) (O.Refused e) z l o)
 
-    pub going-up : parent < index → (next : ℕ) → openerOf s parent ≡ O.Parent next → (ch : Chain) → ch ≡ pushed chain parent → Climbing s i first ch parent next
-    going-up l next o ch ec =
+    pub going-up : parent < index → (next : ℕ) → openerOf s parent ≡ O.Parent next → Climbing s i first (pushed chain parent) parent next
+    going-up l next o =
         let room : length (g .links) < 64 = omega (arith, stack-depth (g .links) (g .is-chain)) in
         record {
           links = parent ∷ g .links;
-          is-chain = ec ∙ push-stack (g .links) parent (g .is-chain) room;
+          is-chain = push-stack (g .links) parent (g .is-chain) room;
           most = room;
           same =
               left

@@ -110,10 +110,10 @@ module _ (s : List ℕ) (start i : ℕ) (chain : Chain) (at read : ℕ) (g : Jum
     pub going-stay : hop ≡ Stay → Jumping s start i chain next (read + 1)
     going-stay eh = on-with (g .stack) chain (g .is-chain) (g .most) (left Stay eh)
 
-    pub going-push : (ch : Chain) → ch ≡ pushed chain index → hop ≡ Push → Jumping s start i ch next (read + 1)
-    going-push ch ec eh =
+    pub going-push : hop ≡ Push → Jumping s start i (pushed chain index) next (read + 1)
+    going-push eh =
         let h : length (g .stack) < 64 = push-room i index next (r .bytes) (length (g .stack)) (hop-is ∙ eh) in
-        on-with (index ∷ g .stack) ch (ec ∙ push-stack (g .stack) index (g .is-chain) h) h (left Push eh)
+        on-with (index ∷ g .stack) (pushed chain index) (push-stack (g .stack) index (g .is-chain) h) h (left Push eh)
 
     landed : (end : ℕ) → hop ≡ Over end → (l : Land) → landOf s end ≡ l →
         jumpFrom s i at (g .stack) ≡ seen r (onLand (yieldedAt s end) (g .stack) l (jumpFrom s i))

@@ -127,15 +127,14 @@ module _ (s : List ℕ) (start i : ℕ) (chain : Chain) (at read : ℕ) (g : Wal
     pub going-stay : turn ≡ Stay → Walking s start i chain next (read + 1)
     going-stay et = on-with (g .stack) chain (g .is-chain) (g .most) (left Stay et)
 
-    pub going-push : (ch : Chain) → ch ≡ pushed chain index → turn ≡ Push → Walking s start i ch next (read + 1)
-    going-push ch ec et =
+    pub going-push : turn ≡ Push → Walking s start i (pushed chain index) next (read + 1)
+    going-push et =
         let h : length (g .stack) < 64 = push-room i index (r .bytes) (length (g .stack)) (turn-is ∙ et) in
-        on-with (index ∷ g .stack) ch (ec ∙ push-stack (g .stack) index (g .is-chain) h) h (left Push et)
+        on-with (index ∷ g .stack) (pushed chain index) (push-stack (g .stack) index (g .is-chain) h) h (left Push et)
 
-    pub going-pop : (ch : Chain) → ch ≡ popped chain → turn ≡ Pop → Walking s start i ch next (read + 1)
-    going-pop ch ec et =
-        let h : length (g .stack) ≡ 0 → ⊥ = pop-room i index (r .bytes) (length (g .stack)) (turn-is ∙ et) in
-        on-with (tail (g .stack)) ch (ec ∙ pop-stack (g .stack) (g .is-chain) (g .most) h)
+    pub going-pop : turn ≡ Pop → Walking s start i (popped chain) next (read + 1)
+    going-pop et =
+        on-with (tail (g .stack)) (popped chain) (pop-stack (g .stack) (g .is-chain) (g .most))
         (omega (arith, g .most, length-tail (g .stack))) (left Pop et)
 
     pub at-found : turn ≡ Found → foundBy chain (read + 1) ≡ walkOf s start i

@@ -4,7 +4,6 @@ use borrow.Author.Needs.{needs}
 use native.Mathlib.Omega.{arith}
 use Prim.Native.Nat.{_-_}
 use mathlib.Core.Path.{sym, _∙_}
-use Rattle.chain.proofs.Laws.{pushed-is}
 use Rattle.opener.proofs.Openers.{opener-read}
 use Rattle.climb.proofs.Climbs.{Climbing, climbing-first, at-top, at-full, at-above, at-missing, going-up}
 use Rattle.climb.proofs.climb_from.Statement.{statement}
@@ -71,7 +70,7 @@ loop-less : tie.Need-loop-less Inv-loop μ-loop
 loop-less c = omega (arith, c .before .before .before .before .before .if2 .left)
 
 loop-again : tie.Need-loop-again Inv-loop μ-loop
-loop-again c = going-up _ _ _ _ _ _ (c .before .before .before .before .before .before .before .loop .inv) (c .before .before .before .before .before .before .if1 .left) (c .before .before .before .before .before .if2 .left) (c .before .before .before .before .if3 .left) _ (sym (c .before .before .before .opener-at .ensures) ∙ c .before .next .given .1) _ (pushed-is _ _ (c .before .before .before .before .before .if2 .left))
+loop-again c = going-up _ _ _ _ _ _ (c .before .before .before .before .before .before .before .loop .inv) (c .before .before .before .before .before .before .if1 .left) (c .before .before .before .before .before .if2 .left) (c .before .before .before .before .if3 .left) _ (sym (c .before .before .before .opener-at .ensures) ∙ c .before .next .given .1)
 
 pub climb-from-spec : {M : Type 1} → statement M
 climb-from-spec =

@@ -8,7 +8,6 @@ use lib.ListN.{length}
 use Rattle.iter.specs.Step.{scanOf, stepOf}
 use Rattle.iter.specs.declared.Next.the-variants.{Record}
 use Rattle.iter.proofs.Reading.{step-fits}
-use Rattle.chain.proofs.Laws.{pushed-is}
 use Rattle.finding.proofs.Goings.{going-first}
 use Rattle.hop.proofs.Hops.{push-room}
 use Rattle.jump.proofs.Jumps.{Jumping, at-end, at-refused, going-stay, going-push, over, going-over, at-miss, at-found, at-stop}
@@ -105,7 +104,7 @@ loop-less-2 : tie.Need-loop-less-2 Inv-loop μ-loop
 loop-less-2 c = omega (arith, c .before .before .before .before .before .before .before .before .loop .inv, step-fits _ _ _ _ _ _ (stepped (c .before .before .before .before)))
 
 loop-again-2 : tie.Need-loop-again-2 Inv-loop μ-loop
-loop-again-2 c = going-push _ _ _ _ _ _ (c .before .before .before .before .before .before .before .before .loop .inv) _ _ _ _ (stepped (c .before .before .before .before)) _ (pushed-is _ _ (pushes c)) (sym (c .before .before .hop-at .ensures) ∙ c .enum-told3 .given .1)
+loop-again-2 c = going-push _ _ _ _ _ _ (c .before .before .before .before .before .before .before .before .loop .inv) _ _ _ _ (stepped (c .before .before .before .before)) (sym (c .before .before .hop-at .ensures) ∙ c .enum-told3 .given .1)
 
 enum-known-end : tie.Need-enum-known-end Inv-loop μ-loop
 enum-known-end c = search needs

@@ -8,7 +8,6 @@ use lib.ListN.{length}
 use Rattle.iter.specs.Step.{scanOf, stepOf}
 use Rattle.iter.specs.declared.Next.the-variants.{Record}
 use Rattle.iter.proofs.Reading.{step-fits}
-use Rattle.chain.proofs.Laws.{pushed-is, popped-is}
 use Rattle.finding.proofs.Goings.{going-first, depth-most}
 use Rattle.walk.proofs.Walks.{Walking, push-room, pop-room, at-end, at-refused, going-stay, going-push, going-pop, at-found, at-stop}
 use Rattle.walk.proofs.walk.Statement.{statement}
@@ -107,7 +106,7 @@ loop-less-2 : tie.Need-loop-less-2 Inv-loop μ-loop
 loop-less-2 c = omega (arith, c .before .before .before .before .before .before .before .before .loop .inv, step-fits _ _ _ _ _ _ (stepped (c .before .before .before .before)))
 
 loop-again-2 : tie.Need-loop-again-2 Inv-loop μ-loop
-loop-again-2 c = going-push _ _ _ _ _ _ (c .before .before .before .before .before .before .before .before .loop .inv) _ _ _ _ (stepped (c .before .before .before .before)) _ (pushed-is _ _ (pushes c)) (sym (c .before .before .turn-at .ensures) ∙ c .enum-told3 .given .1)
+loop-again-2 c = going-push _ _ _ _ _ _ (c .before .before .before .before .before .before .before .before .loop .inv) _ _ _ _ (stepped (c .before .before .before .before)) (sym (c .before .before .turn-at .ensures) ∙ c .enum-told3 .given .1)
 
 enum-told-4 : tie.Need-enum-told-4 Inv-loop μ-loop
 enum-told-4 c = search needs
@@ -128,7 +127,7 @@ loop-less-3 : tie.Need-loop-less-3 Inv-loop μ-loop
 loop-less-3 c = omega (arith, c .before .before .before .before .before .before .before .before .loop .inv, step-fits _ _ _ _ _ _ (stepped (c .before .before .before .before)))
 
 loop-again-3 : tie.Need-loop-again-3 Inv-loop μ-loop
-loop-again-3 c = going-pop _ _ _ _ _ _ (c .before .before .before .before .before .before .before .before .loop .inv) _ _ _ _ (stepped (c .before .before .before .before)) _ (popped-is _ (pops c) (depth-most _ _ _ _ _ _ (c .before .before .before .before .before .before .before .before .loop .inv))) (sym (c .before .before .turn-at .ensures) ∙ c .enum-told4 .given .1)
+loop-again-3 c = going-pop _ _ _ _ _ _ (c .before .before .before .before .before .before .before .before .loop .inv) _ _ _ _ (stepped (c .before .before .before .before)) (sym (c .before .before .turn-at .ensures) ∙ c .enum-told4 .given .1)
 
 enum-told-5 : tie.Need-enum-told-5 Inv-loop μ-loop
 enum-told-5 c = search needs
