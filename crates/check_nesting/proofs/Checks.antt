@@ -7,7 +7,7 @@ use Prim.Native.Nat.{ℕ, suc, _+_, _-_, _≤_, _<_}
 use native.Mathlib.Omega.{arith}
 use lib.ListN.{length, take, drop, set, replicate}
 use lib.Dec.{ltb}
-use borrow.Author.Tests.{lt-ltb, ltb-true}
+use borrow.Author.Tests.{ltb-true}
 use Rattle.common.specs.declared.Refusal.{Refusal}
 use Rattle.iter.specs.Step.{scanOf}
 use Rattle.iter.specs.Reading.{Rec, Reading, recAt, ended, more, onNext, readOf}
@@ -15,7 +15,7 @@ use Rattle.iter.specs.declared.Scan.{Scan}
 use Rattle.iter.specs.declared.Next.{Next}
 use Rattle.iter.specs.declared.Next.the-variants.{End, Refused, Record}
 use Rattle.iter.proofs.Reading.{Stepped, step-fits, read-by, Skips, skips}
-use Rattle.iter.proofs.Records.{bytes-length}
+use Rattle.iter.proofs.Records.{bytes-length, skipped-to}
 use Rattle.chain.specs.Chain.{chainOf, topOf}
 use Rattle.chain.specs.declared.Chain.{Chain}
 use Rattle.chain.proofs.Laws.{pushed, popped, stack-depth, push-stack, pop-stack, length-tail, top-stack, top-none}
@@ -82,10 +82,11 @@ found-bounds s at c index from len next e n = subst (λ (x : Scan). Found s at x
   where
     it : scanOf s at .next ≡ Record index from len next → Found s at (scanOf s at) index from len next
     it q =
-        let y = step-fits s at index from len next q in
-        let l : at < length s = omega (arith, y) in
-        let k : Skips s at (scanOf s at) = rw (lt-ltb at (length s) l) at (skips s at) in
-        record { stepped = y; exact = k .at-record index from len next q; size = bytes-length s at index from len next q }
+        record {
+          stepped = step-fits s at index from len next q;
+          exact = skipped-to s at index from len next q;
+          size = bytes-length s at index from len next q;
+        }
 
 -- the check of a reading whose first record is r
 pub check-more : (r : Rec) (rest reading : Reading) (st : List Open) (n : Counts) → reading ≡ more r rest →

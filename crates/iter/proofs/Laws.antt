@@ -13,7 +13,7 @@ use Rattle.common.specs.Bytes.{le}
 use Rattle.common.specs.Reader.{refusal}
 use Rattle.common.specs.declared.Refusal.{Refusal}
 use Rattle.constants.specs.Kind.{isFiller}
-use Rattle.iter.specs.Step.{frameAt, plain, onKind, onFrame, scanFrom, within, scanOf}
+use Rattle.iter.specs.Step.{frameAt, plain, onKind, onFrame, scanFrom, scanOf}
 use Rattle.iter.specs.declared.Frame.{Frame}
 use Rattle.iter.specs.declared.Frame.the-variants as F
 use Rattle.iter.specs.declared.Scan.{Scan}

@@ -17,7 +17,7 @@ use Rattle.iter.specs.declared.Frame.{Frame}
 use Rattle.iter.specs.declared.Frame.the-variants as F
 use Rattle.iter.specs.declared.Next.{Next}
 use Rattle.iter.specs.declared.Next.the-variants.{End, Refused, Record}
-use Rattle.iter.proofs.Reading.{Stepped, step-fits, read-by, Skips, skips, end-is}
+use Rattle.iter.proofs.Reading.{step-fits, read-by, Skips, skips, end-is}
 
 -- what stands at the index of a yielded record: its frame, which is no filler's
 record Own (s : List ℕ) (index start len next : ℕ) : Type 0 where
@@ -95,6 +95,14 @@ bytes-length s at index start len next e =
     let y = step-fits s at index start len next e in
     simp (length-take, length-drop) (omega arith)
 
+-- a record that a step yields begins behind what the step passed over
+pub skipped-to : (s : List ℕ) (at index start len next : ℕ) → scanOf s at .next ≡ Record index start len next → at + scanOf s at .skipped ≡ index
+skipped-to s at index start len next e =
+    let y = step-fits s at index start len next e in
+    let inside : at < length s = omega (arith, y) in
+    let k : Skips s at (scanOf s at) = rw (lt-ltb at (length s) inside) at (skips s at) in
+    k .at-record index start len next e
+
 -- the records of a list stand one behind the other, from a position on
 abbrev pub Rising : ℕ → List Rec → Type 0
 Rising p [] = Unit
@@ -125,7 +133,7 @@ adds-up s =
     (λ at x e d. absurd (d x e))
     (λ at index start len next e ih d.
     let y = step-fits s at index start len next e in
-    let k = skipped-to at index start len next e in
+    let k = skipped-to s at index start len next e in
     let i = ih d in
     omega (arith, bytes-length s at index start len next e))
   where
@@ -135,13 +143,3 @@ adds-up s =
         go : (b : Bool) → ltb at (length s) ≡ b → Skips s (cond b at (length s)) (scanOf s at) → 0 + scanOf s at .skipped ≡ length s - at
         go true eb k = omega (arith, k .at-end q e, end-is s at q e)
         go false eb k = omega (arith, k .at-end q e, end-is s at q e, ltb-false)
-
-    skipped-to : (at index start len next : ℕ) → scanOf s at .next ≡ Record index start len next → at + scanOf s at .skipped ≡ index
-    skipped-to at index start len next e = go (ltb at (length s)) refl (skips s at)
-      where
-        y : Stepped s at index start len next
-        y = step-fits s at index start len next e
-
-        go : (b : Bool) → ltb at (length s) ≡ b → Skips s (cond b at (length s)) (scanOf s at) → at + scanOf s at .skipped ≡ index
-        go true eb k = k .at-record index start len next e
-        go false eb k = absurd (omega (arith, ltb-false, y))
