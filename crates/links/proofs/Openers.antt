@@ -3,7 +3,7 @@
 use Prim.Native.Nat.{ℕ, _+_, _≤_}
 use mathlib.Core.Path.{_≡_, refl, sym, _∙_, ap}
 use mathlib.Core.Bool.{Bool, true, false, cond, _||_, not}
-use mathlib.Core.List.{List}
+use mathlib.Core.List.{List, [], _∷_, map}
 use native.Mathlib.Omega.{arith}
 use lib.ListN.{length}
 use lib.Dec.{ltb, leb, eqb}
@@ -11,7 +11,8 @@ use borrow.Author.Tests.{leb-true, eqb-true, le-ltb}
 use Rattle.common.specs.Bytes.{le}
 use Rattle.common.specs.Reader.{Read, value, refused, runsOut, refusal, Reader, next, _>>=_, uint, u32}
 use Rattle.common.specs.declared.Refusal.{Refusal}
-use Rattle.constants.specs.Kind.{kinds, class, role, opens, classOf, roleOf as kindRole, nestingRole}
+use Rattle.constants.specs.Kind.{kinds, class, role, opens, classOf, classNumber, roleOf as kindRole, nestingRole}
+use Rattle.constants.specs.Listed.{among}
 use Rattle.constants.specs.declared.Class.{Class}
 use Rattle.constants.specs.declared.Class.the-variants.{Unknown, ScopeEnd, ObjName, RegisterVariable, Constant, UserDefinedType, MultiRegisterVariable, Data, Public, Procedure, ThreadStorage, CompileFlags, UsingNamespace, ProcedureReference, DataReference, AnnotationReference, Trampoline, Export, Local, BuildInfo, InlineSite, InlineSiteEnd, ProcedureEnd, Label, Block, RegisterRelative, Thunk, SeparatedCode}
 use Rattle.constants.specs.declared.Role.the-variants.{Opens}
@@ -57,7 +58,7 @@ two k = u32 >>= λ parent. u32 >>= λ end. k parent end
 
 linked : (k : ℕ → ℕ → Reader SymbolData) → ((p e : ℕ) (s : List ℕ) (at : ℕ) → Has p e (k p e s at)) → (s : List ℕ) → Linked s (two k s 2)
 unfolding _>>=_ uint
-linked k each s = go (leb 6 (length s)) (leb 10 (length s)) refl
+linked k each s = go (leb 6 (length s))
   where
     inside : 10 ≤ length s → (r : Read SymbolData) → Has (le 4 s 2) (le 4 s 6) r → Linked s r
     inside h (value d to) e = (h, e)
@@ -67,9 +68,9 @@ linked k each s = go (leb 6 (length s)) (leb 10 (length s)) refl
     second true h = inside (leb-true _ _ h) (k (le 4 s 2) (le 4 s 6) s 10) (each (le 4 s 2) (le 4 s 6) s 10)
     second false h = tt
 
-    go : (a b : Bool) → leb 10 (length s) ≡ b → Linked s (next (λ p s' at. next (λ e. k p e) s' (cond (leb (at + 4) (length s')) (value (le 4 s' at) (at + 4)) (refused runsOut))) s (cond a (value (le 4 s 2) 6) (refused runsOut)))
-    go true b h = second (leb 10 (length s)) refl
-    go false b h = tt
+    go : (a : Bool) → Linked s (next (λ p s' at. next (λ e. k p e) s' (cond (leb (at + 4) (length s')) (value (le 4 s' at) (at + 4)) (refused runsOut))) s (cond a (value (le 4 s 2) 6) (refused runsOut)))
+    go true = second (leb 10 (length s)) refl
+    go false = tt
 
 -- a parent field of 0 is none, and none is 0
 index-parent : (x : ℕ) → orZero32 (indexOf x) ≡ x
@@ -124,37 +125,10 @@ separated-code-linked =
 
 -- the classes of the kinds that open a scope; a class that is not read has no record
 abbrev opening : Class → Bool
-opening Unknown = true
-opening ScopeEnd = false
-opening ObjName = false
-opening RegisterVariable = false
-opening Constant = false
-opening UserDefinedType = false
-opening MultiRegisterVariable = false
-opening Data = false
-opening Public = false
-opening Procedure = true
-opening ThreadStorage = false
-opening CompileFlags = false
-opening UsingNamespace = false
-opening ProcedureReference = false
-opening DataReference = false
-opening AnnotationReference = false
-opening Trampoline = false
-opening Export = false
-opening Local = false
-opening BuildInfo = false
-opening InlineSite = true
-opening InlineSiteEnd = false
-opening ProcedureEnd = false
-opening Label = false
-opening Block = true
-opening RegisterRelative = false
-opening Thunk = true
-opening SeparatedCode = true
+opening c = among (classNumber c) (map classNumber (Unknown ∷ Procedure ∷ InlineSite ∷ Block ∷ Thunk ∷ SeparatedCode ∷ []))
 
 class-linked : (c : Class) → opening c ≡ true → (kind : ℕ) (s : List ℕ) → Linked s (layout c kind s 2)
-unfolding layout
+unfolding layout among
 class-linked Unknown h kind s = tt
 class-linked ScopeEnd h kind s = absurd (let z : _≡_ {A = ℕ} 0 1 = cc in omega arith)
 class-linked ObjName h kind s = absurd (let z : _≡_ {A = ℕ} 0 1 = cc in omega arith)
@@ -186,7 +160,7 @@ class-linked SeparatedCode h kind s = separated-code-linked s
 
 -- a kind that opens a scope is of such a class: one test over the list of kinds
 opens-class : (k : ℕ) → nestingRole k ≡ Opens → opening (classOf k) ≡ true
-unfolding nestingRole kindRole classOf kinds
+unfolding nestingRole kindRole classOf kinds among
 opens-class k h = rw h at (agree (λ e. not (opens (role e)) || opening (class e)) (λ e. true) k kinds refl refl)
 
 -- decode answers a record that opens a scope with the links that stand at 2 and 6
