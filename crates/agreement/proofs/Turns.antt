@@ -21,13 +21,14 @@ use Rattle.finding.specs.Finding.{Walk, seen, stops}
 use Rattle.finding.specs.declared.Outcome.the-variants.{Answer}
 use Rattle.walk.specs.declared.Turn.{Turn}
 use Rattle.walk.specs.declared.Turn.the-variants as T
-use Rattle.walk.specs.Walk.{turnOfRole, turnOf, onTurn}
-use Rattle.walk.proofs.Walks.{walkAt, walk-by}
+use Rattle.walk.specs.Walk.{turnOf, onTurn}
+use Rattle.walk.proofs.Walks.{turn-role, walkAt, walk-by}
 use Rattle.hop.specs.declared.Hop.{Hop}
 use Rattle.hop.specs.declared.Hop.the-variants as H
 use Rattle.hop.specs.declared.Land.{Land}
 use Rattle.hop.specs.declared.Land.the-variants as L
-use Rattle.hop.specs.Hop.{openHop, roleHop, hopOf, missed, landRole, landOn, landOf}
+use Rattle.hop.specs.Hop.{openHop, hopOf, missed, landRole, landOn, landOf}
+use Rattle.hop.proofs.Hops.{hop-role}
 use Rattle.jump.specs.Jump.{yieldedAt, onLand, onHop, jumpFrom}
 use Rattle.jump.proofs.Jumps.{jump-by}
 use Rattle.agreement.proofs.Nest.{bytesAt}
@@ -76,27 +77,19 @@ module _ (s : List ℕ) (i at : ℕ) (st : List ℕ) (index from len next : ℕ)
   jump-past l = jump-hop (H.Stop 14) (rw (ne-eqb index i (λ q. omega arith), lt-ltb i index l))
 
   module _ (l : index < i) where
-    turn-role : (ro : Role) → nestingRoleOf bytes ≡ ro → turnOf i index bytes (length st) ≡ turnOfRole ro (length st)
-    unfolding turnOf
-    turn-role ro q = rw (ne-eqb index i (λ z. omega arith), le-ltb i index (let f : index ≤ i = omega arith in f), q)
-
-    hop-role : (ro : Role) → nestingRoleOf bytes ≡ ro → hopOf i index next bytes (length st) ≡ roleHop ro bytes next i (length st)
-    unfolding hopOf
-    hop-role ro q = rw (ne-eqb index i (λ z. omega arith), le-ltb i index (let f : index ≤ i = omega arith in f), q)
-
     pub walk-plain : nestingRoleOf bytes ≡ Neither → walkAt s i at st ≡ seen r (walkAt s i next st)
-    walk-plain q = walk-turn T.Stay (turn-role Neither q)
+    walk-plain q = walk-turn T.Stay (turn-role bytes (λ z. omega arith) (omega arith) q _)
 
     pub jump-plain : nestingRoleOf bytes ≡ Neither → jumpFrom s i at st ≡ seen r (jumpFrom s i next st)
-    jump-plain q = jump-hop H.Stay (hop-role Neither q)
+    jump-plain q = jump-hop H.Stay (hop-role next bytes (λ z. omega arith) (omega arith) q _)
 
     pub walk-open : nestingRoleOf bytes ≡ Opens → length st < 64 → walkAt s i at st ≡ seen r (walkAt s i next (index ∷ st))
-    walk-open q h = walk-turn T.Push (turn-role Opens q ∙ ap (λ (b : Bool). cond b (T.Stop 9) T.Push) (lt-leb 64 (length st) h))
+    walk-open q h = walk-turn T.Push (turn-role bytes (λ z. omega arith) (omega arith) q _ ∙ ap (λ (b : Bool). cond b (T.Stop 9) T.Push) (lt-leb 64 (length st) h))
 
     module _ {parent end : ℕ} (q : nestingRoleOf bytes ≡ Opens) (g : linksOf bytes ≡ Read parent end) (f : next ≤ end) where
       hop-open : hopOf i index next bytes (length st) ≡ cond (ltb end i) (H.Over end) (cond (leb 64 (length st)) (H.Stop 9) H.Push)
       hop-open =
-          hop-role Opens q
+          hop-role next bytes (λ z. omega arith) (omega arith) q _
           ∙ ap (λ (x : Links). openHop x next i (length st)) g
           ∙ ap (λ (b : Bool). cond b (H.Stop 13) (cond (ltb end i) (H.Over end) (cond (leb 64 (length st)) (H.Stop 9) H.Push))) (le-ltb end next f)
 
@@ -124,7 +117,7 @@ pub walk-close : (s : List ℕ) (i at x : ℕ) (st : List ℕ) (index from len n
     nestingRoleOf (bytesAt s from len) ≡ Closes → walkAt s i at (x ∷ st) ≡ seen (recAt s (scanOf s at) index from len) (walkAt s i next st)
 walk-close s i at x st index from len next e l q =
     walk-turn s i at (x ∷ st) index from len next e T.Pop
-    (turn-role s i at (x ∷ st) index from len next e l Closes q ∙ ap (λ (b : Bool). cond b (T.Stop 10) T.Pop) (ne-eqb (suc (length st)) 0 (omega arith)))
+    (turn-role (bytesAt s from len) (λ z. omega arith) (omega arith) q _ ∙ ap (λ (b : Bool). cond b (T.Stop 10) T.Pop) (ne-eqb (suc (length st)) 0 (omega arith)))
 
 pub walk-end : (s : List ℕ) (i at : ℕ) (st : List ℕ) (q : ℕ) → scanOf s at .next ≡ N.End q → walkAt s i at st ≡ stops 14
 walk-end s i at st q e = walk-by s i at st (N.End q) e

@@ -7,7 +7,7 @@ use Prim.Native.Nat.{ℕ, _+_, _-_, _≤_, _<_}
 use native.Mathlib.Omega.{arith}
 use lib.ListN.{length, take, drop}
 use lib.Dec.{ltb, leb, eqb}
-use borrow.Author.Tests.{leb-false, ltb-false}
+use borrow.Author.Tests.{leb-false, ltb-false, le-ltb, ne-eqb}
 use Rattle.constants.specs.declared.Role.{Role}
 use Rattle.constants.specs.declared.Role.the-variants.{Neither, Opens, Closes}
 use Rattle.iter.specs.Step.{scanOf}
@@ -54,6 +54,12 @@ room i index next bytes d = by (eqb index i) (ltb i index)
     by true b = tt
     by false true = tt
     by false false = room-role (nestingRoleOf bytes) bytes next i d
+
+-- the hop at a record before i is its role's
+pub hop-role : {i index : ℕ} (next : ℕ) (bytes : List ℕ) {ro : Role} → ¬ (index ≡ i) → index ≤ i → nestingRoleOf bytes ≡ ro → (d : ℕ) →
+    hopOf i index next bytes d ≡ roleHop ro bytes next i d
+unfolding hopOf
+hop-role next bytes n l q d = rw (ne-eqb _ _ n, le-ltb _ _ l, q)
 
 pub push-room : (i index next : ℕ) (bytes : List ℕ) (d : ℕ) → hopOf i index next bytes d ≡ Push → d < 64
 push-room i index next bytes d e = subst (λ (h : Hop). Room next d h) e (room i index next bytes d)

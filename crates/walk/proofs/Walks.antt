@@ -7,7 +7,7 @@ use Prim.Native.Nat.{ℕ, _+_, _-_, _≤_, _<_}
 use native.Mathlib.Omega.{arith}
 use lib.ListN.{length, take, drop}
 use lib.Dec.{ltb, leb, eqb}
-use borrow.Author.Tests.{leb-false, eqb-false}
+use borrow.Author.Tests.{leb-false, eqb-false, le-ltb, ne-eqb}
 use Rattle.common.specs.Reader.{refusal}
 use Rattle.common.specs.declared.Refusal.{Refusal}
 use Rattle.constants.specs.declared.Role.{Role}
@@ -57,6 +57,11 @@ room i index bytes d = by (eqb index i) (ltb i index)
     by true b = tt
     by false true = tt
     by false false = room-role (nestingRoleOf bytes) d
+
+-- the turn at a record before i is its role's
+pub turn-role : {i index : ℕ} (bytes : List ℕ) {ro : Role} → ¬ (index ≡ i) → index ≤ i → nestingRoleOf bytes ≡ ro → (d : ℕ) → turnOf i index bytes d ≡ turnOfRole ro d
+unfolding turnOf
+turn-role bytes n l q d = rw (ne-eqb _ _ n, le-ltb _ _ l, q)
 
 pub push-room : (i index : ℕ) (bytes : List ℕ) (d : ℕ) → turnOf i index bytes d ≡ Push → d < 64
 push-room i index bytes d e = subst (λ (t : Turn). Room d t) e (room i index bytes d)

@@ -2,8 +2,9 @@
 -- Assumes nothing.
 use borrow.Author.Needs.{needs}
 use mathlib.Core.Path.{sym, _∙_}
-use borrow.Author.Tests.{le-ltb, lt-ltb, eq-eqb, ne-eqb}
+use borrow.Author.Tests.{lt-ltb, eq-eqb, ne-eqb}
 use Rattle.hop.specs.Hop.{hopOf}
+use Rattle.hop.proofs.Hops.{hop-role}
 use Rattle.hop.proofs.hop_at.Statement.{statement}
 use Rattle.hop.proofs.hop_at.Tie as tie
 
@@ -25,22 +26,19 @@ hop-open-requires : tie.Need-hop-open-requires
 hop-open-requires c κs = sym (c .before .before .nesting-role .ensures) ∙ c .enum-told .given .1
 
 returns-3 : tie.Need-returns-3
-unfolding hopOf
-returns-3 c = rw (ne-eqb _ _ (c .before .before .before .before .before .if1 .left), le-ltb _ _ (c .before .before .before .before .if2 .left), sym (c .before .before .before .nesting-role .ensures) ∙ c .before .enum-told .given .1) (c .hop-open .ensures)
+returns-3 c = rw (hop-role _ _ (c .before .before .before .before .before .if1 .left) (c .before .before .before .before .if2 .left) (sym (c .before .before .before .nesting-role .ensures) ∙ c .before .enum-told .given .1)) (c .hop-open .ensures)
 
 enum-told-2 : tie.Need-enum-told-2
 enum-told-2 c = search needs
 
 returns-4 : tie.Need-returns-4
-unfolding hopOf
-returns-4 c = rw (ne-eqb _ _ (c .before .before .before .before .if1 .left), le-ltb _ _ (c .before .before .before .if2 .left), sym (c .before .before .nesting-role .ensures) ∙ c .enum-told2 .given .1)
+returns-4 c = rw (hop-role _ _ (c .before .before .before .before .if1 .left) (c .before .before .before .if2 .left) (sym (c .before .before .nesting-role .ensures) ∙ c .enum-told2 .given .1))
 
 enum-told-3 : tie.Need-enum-told-3
 enum-told-3 c = search needs
 
 returns-5 : tie.Need-returns-5
-unfolding hopOf
-returns-5 c = rw (ne-eqb _ _ (c .before .before .before .before .if1 .left), le-ltb _ _ (c .before .before .before .if2 .left), sym (c .before .before .nesting-role .ensures) ∙ c .enum-told3 .given .1)
+returns-5 c = rw (hop-role _ _ (c .before .before .before .before .if1 .left) (c .before .before .before .if2 .left) (sym (c .before .before .nesting-role .ensures) ∙ c .enum-told3 .given .1))
 
 pub hop-at-spec : {M : Type 1} → statement M
 hop-at-spec =

@@ -2,8 +2,9 @@
 -- Assumes nothing.
 use borrow.Author.Needs.{needs}
 use mathlib.Core.Path.{sym, _∙_}
-use borrow.Author.Tests.{le-ltb, lt-ltb, le-leb, lt-leb, eq-eqb, ne-eqb}
+use borrow.Author.Tests.{lt-ltb, le-leb, lt-leb, eq-eqb, ne-eqb}
 use Rattle.walk.specs.Walk.{turnOf}
+use Rattle.walk.proofs.Walks.{turn-role}
 use Rattle.walk.proofs.turn_at.Statement.{statement}
 use Rattle.walk.proofs.turn_at.Tie as tie
 
@@ -22,30 +23,25 @@ enum-told : tie.Need-enum-told
 enum-told c = search needs
 
 returns-3 : tie.Need-returns-3
-unfolding turnOf
-returns-3 c = rw (ne-eqb _ _ (c .before .before .before .before .before .if1 .left), le-ltb _ _ (c .before .before .before .before .if2 .left), sym (c .before .before .before .nesting-role .ensures) ∙ c .before .enum-told .given .1, le-leb _ _ (c .if3 .taken))
+returns-3 c = rw (turn-role _ (c .before .before .before .before .before .if1 .left) (c .before .before .before .before .if2 .left) (sym (c .before .before .before .nesting-role .ensures) ∙ c .before .enum-told .given .1), le-leb _ _ (c .if3 .taken))
 
 returns-4 : tie.Need-returns-4
-unfolding turnOf
-returns-4 c = rw (ne-eqb _ _ (c .before .before .before .before .before .if1 .left), le-ltb _ _ (c .before .before .before .before .if2 .left), sym (c .before .before .before .nesting-role .ensures) ∙ c .before .enum-told .given .1, lt-leb _ _ (c .if3 .left))
+returns-4 c = rw (turn-role _ (c .before .before .before .before .before .if1 .left) (c .before .before .before .before .if2 .left) (sym (c .before .before .before .nesting-role .ensures) ∙ c .before .enum-told .given .1), lt-leb _ _ (c .if3 .left))
 
 enum-told-2 : tie.Need-enum-told-2
 enum-told-2 c = search needs
 
 returns-5 : tie.Need-returns-5
-unfolding turnOf
-returns-5 c = rw (ne-eqb _ _ (c .before .before .before .before .before .if1 .left), le-ltb _ _ (c .before .before .before .before .if2 .left), sym (c .before .before .before .nesting-role .ensures) ∙ c .before .enum-told2 .given .1, eq-eqb _ _ (c .if4 .taken))
+returns-5 c = rw (turn-role _ (c .before .before .before .before .before .if1 .left) (c .before .before .before .before .if2 .left) (sym (c .before .before .before .nesting-role .ensures) ∙ c .before .enum-told2 .given .1), eq-eqb _ _ (c .if4 .taken))
 
 returns-6 : tie.Need-returns-6
-unfolding turnOf
-returns-6 c = rw (ne-eqb _ _ (c .before .before .before .before .before .if1 .left), le-ltb _ _ (c .before .before .before .before .if2 .left), sym (c .before .before .before .nesting-role .ensures) ∙ c .before .enum-told2 .given .1, ne-eqb _ _ (c .if4 .left))
+returns-6 c = rw (turn-role _ (c .before .before .before .before .before .if1 .left) (c .before .before .before .before .if2 .left) (sym (c .before .before .before .nesting-role .ensures) ∙ c .before .enum-told2 .given .1), ne-eqb _ _ (c .if4 .left))
 
 enum-told-3 : tie.Need-enum-told-3
 enum-told-3 c = search needs
 
 returns-7 : tie.Need-returns-7
-unfolding turnOf
-returns-7 c = rw (ne-eqb _ _ (c .before .before .before .before .if1 .left), le-ltb _ _ (c .before .before .before .if2 .left), sym (c .before .before .nesting-role .ensures) ∙ c .enum-told3 .given .1)
+returns-7 c = rw (turn-role _ (c .before .before .before .before .if1 .left) (c .before .before .before .if2 .left) (sym (c .before .before .nesting-role .ensures) ∙ c .enum-told3 .given .1))
 
 pub turn-at-spec : {M : Type 1} → statement M
 turn-at-spec =
