@@ -7,7 +7,7 @@ use Rattle.constants.specs.Kind.{startsScope, endsScope}
 use Rattle.field_words.specs.Fields.{truth}
 use Rattle.reply.specs.Written.{written}
 use Rattle.reply.specs.Reply.{Reply, Replied}
-use Rattle.mitrelilac.specs.Replies.{kindReply}
+use Rattle.replies.specs.Replies.{kindReply}
 
 -- the reply to an answer is the reply to what the answer is equal to
 pub replied-as : {A : Type 0} (reply : A → Reply) {x y : A} {returned : ℕ} {before after : List ℕ} →

@@ -12,13 +12,8 @@ ghost use Rattle.walk.specs.Walk.{walkOf};
 ghost use Rattle.jump.specs.Jump.{jumpOf};
 ghost use Rattle.climb.specs.Climb.{climbOf};
 ghost use Rattle.reply.specs.Reply.{Replied};
-ghost use Rattle.mitrelilac.specs.Replies.{stepReply, kindReply, decodeReply, nameReply, entryReply, checkReply, findingReply, ascentReply};
-use check_nesting::Checked;
-use entries::ParsedEntry;
-use iter::Next;
+ghost use Rattle.replies.specs.Replies.{stepReply, kindReply, decodeReply, nameReply, entryReply, checkReply, findingReply, ascentReply};
 use records::Decoded;
-use records::OptionPart;
-use symbol_name::Named;
 
 // One step from a position. End: 0 and the position. A record: 1, its index, where its bytes start, how many they are, and the next
 // position.
@@ -26,22 +21,7 @@ use symbol_name::Named;
 pub extern "C" fn mitrelilac_step(stream: &[u8], position: usize, out: &mut [u64; 5]) -> u32
     ensures { λ r. ⌜ Replied (stepReply (stepOf (now (stream .entry)) position)) r (now (out .entry)) (now (out .exit)) ⌝ }
 {
-    match iter::step(stream, position) {
-        Next::End(at) => {
-            reply::put2(out, 0, at as u64);
-            return 0;
-        }
-        Next::Record {
-            index,
-            start,
-            len,
-            next,
-        } => {
-            reply::put5(out, 1, index as u64, start as u64, len as u64, next as u64);
-            return 0;
-        }
-        Next::Refused(e) => return reply::refuse(out, e),
-    }
+    replies::reply_step(iter::step(stream, position), out)
 }
 
 // The kind of a record, 1 if it opens a scope, and 1 if it closes one.
@@ -75,19 +55,7 @@ pub extern "C" fn mitrelilac_decode(rec: &[u8], out: &mut [u64; 24]) -> u32
 pub extern "C" fn mitrelilac_name(rec: &[u8], out: &mut [u64; 3]) -> u32
     ensures { λ r. ⌜ Replied (nameReply (nameOf (now (rec .entry)))) r (now (out .entry)) (now (out .exit)) ⌝ }
 {
-    match symbol_name::name(rec) {
-        Named::Answer(has) => match has {
-            OptionPart::Some(p) => {
-                reply::put3(out, 1, p.start as u64, p.len as u64);
-                return 0;
-            }
-            OptionPart::None => {
-                reply::put3(out, 0, 0, 0);
-                return 0;
-            }
-        },
-        Named::Refused(e) => return reply::refuse(out, e),
-    }
+    replies::reply_name(symbol_name::name(rec), out)
 }
 
 // The entry k of a register list: the register, and where its name starts and how long it is.
@@ -95,19 +63,7 @@ pub extern "C" fn mitrelilac_name(rec: &[u8], out: &mut [u64; 3]) -> u32
 pub extern "C" fn mitrelilac_register_entry(rec: &[u8], k: usize, out: &mut [u64; 3]) -> u32
     ensures { λ r. ⌜ Replied (entryReply (registerEntry (now (rec .entry)) k)) r (now (out .entry)) (now (out .exit)) ⌝ }
 {
-    match register_entry::register_entry(rec, k) {
-        ParsedEntry::Value(entry, _) => {
-            let name = entry.name;
-            reply::put3(
-                out,
-                entry.register as u64,
-                name.start as u64,
-                name.len as u64,
-            );
-            return 0;
-        }
-        ParsedEntry::Refused(e) => return reply::refuse(out, e),
-    }
+    replies::reply_entry(register_entry::register_entry(rec, k), out)
 }
 
 // The nesting check. The records read and their bytes, the records passed over and theirs, openers, deepest nesting.
@@ -115,21 +71,7 @@ pub extern "C" fn mitrelilac_register_entry(rec: &[u8], k: usize, out: &mut [u64
 pub extern "C" fn mitrelilac_check(stream: &[u8], start: usize, out: &mut [u64; 6]) -> u32
     ensures { λ r. ⌜ Replied (checkReply (checkOf (now (stream .entry)) start)) r (now (out .entry)) (now (out .exit)) ⌝ }
 {
-    match check_nesting::check(stream, start) {
-        Checked::Good(n) => {
-            reply::put6(
-                out,
-                n.records as u64,
-                n.bytes as u64,
-                n.passed as u64,
-                n.skipped as u64,
-                n.openers as u64,
-                n.deepest as u64,
-            );
-            return 0;
-        }
-        Checked::Refused(e) => return reply::refuse(out, e),
-    }
+    replies::reply_check(check_nesting::check(stream, start), out)
 }
 
 // The scopes that enclose the record at i, by steps from start: the number of records read, how many scopes there are, and 64 places

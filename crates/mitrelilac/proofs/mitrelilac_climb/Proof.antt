@@ -1,7 +1,7 @@
 -- `mitrelilac::mitrelilac_climb` meets its contract.
 -- Assumes nothing.
 use borrow.Author.Needs.{needs}
-use Rattle.mitrelilac.specs.Replies.{ascentReply}
+use Rattle.replies.specs.Replies.{ascentReply}
 use Rattle.mitrelilac.proofs.Replies.{replied-as}
 use Rattle.mitrelilac.proofs.mitrelilac_climb.Statement.{statement}
 use Rattle.mitrelilac.proofs.mitrelilac_climb.Tie as tie

@@ -3,7 +3,7 @@
 use borrow.Author.Needs.{needs}
 use mathlib.Core.Path.{refl, sym, _∙_, ap}
 use Rattle.records.specs.Answer.{decodedOf}
-use Rattle.mitrelilac.specs.Replies.{decodeReply}
+use Rattle.replies.specs.Replies.{decodeReply}
 use Rattle.mitrelilac.proofs.Replies.{replied-as}
 use Rattle.mitrelilac.proofs.mitrelilac_decode.Statement.{statement}
 use Rattle.mitrelilac.proofs.mitrelilac_decode.Tie as tie

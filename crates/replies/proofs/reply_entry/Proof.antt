@@ -1,0 +1,42 @@
+-- `replies::reply_entry` meets its contract.
+-- Assumes nothing.
+use borrow.Author.Needs.{needs}
+use mathlib.Core.Path.{refl}
+use Rattle.replies.proofs.reply_entry.Statement.{statement}
+use Rattle.replies.proofs.reply_entry.Tie as tie
+
+enum-known-answer : tie.Need-enum-known-answer
+enum-known-answer c = search needs
+
+cast-put3 : tie.Need-cast-put3
+cast-put3 c = search needs
+
+put3-requires : tie.Need-put3-requires
+put3-requires c κs = search needs
+
+returns : tie.Need-returns
+returns c =
+    rw (c .before .before .before .before .before .answer .given .1)
+    (record { number = refl; words = c .put3 .ensures })
+
+enum-known-answer-2 : tie.Need-enum-known-answer-2
+enum-known-answer-2 c = search needs
+
+refuse-requires : tie.Need-refuse-requires
+refuse-requires c κs = search needs
+
+returns-2 : tie.Need-returns-2
+returns-2 c =
+    rw (c .before .before .before .answer2 .given .1) (c .refuse .ensures)
+
+pub reply-entry-spec : {M : Type 1} → statement M
+reply-entry-spec =
+    tie.close
+    (tie.spec
+    enum-known-answer
+    cast-put3
+    put3-requires
+    returns
+    enum-known-answer-2
+    refuse-requires
+    returns-2)
