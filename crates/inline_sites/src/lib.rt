@@ -3,8 +3,13 @@
 // A decoder is given the whole record, kind first, so that its fields start at position 2. It tests the room of the fields
 // once, then reads them.
 ghost use mathlib.Core.Path.{_≡_};
+ghost use mathlib.Core.List.{[], _∷_};
+ghost use Prim.Native.Nat.{_≤_};
+ghost use lib.ListN.{length};
+ghost use Rattle.common.specs.Row.{filled};
+ghost use Rattle.records.specs.declared.SymbolData.the-variants.{InlineSite};
 ghost use Rattle.records.specs.Answer.{decodedOf};
-ghost use Rattle.inline_sites.specs.Inline.{plainSite, countedSite, inlineSite};
+ghost use Rattle.inline_sites.specs.Inline.{left, inlineSiteOf, plainSite, countedSite, inlineSite};
 use common::Refusal;
 use constants::S_INLINESITE2;
 use names::Part;
@@ -13,6 +18,24 @@ use records::InlineSiteSymbol;
 use records::OptionU32;
 use records::SymbolData;
 
+// The fields of an inline site whose annotations start at a position: all that is left from there on.
+fn inline_site(s: &[u8], invocations: OptionU32, start: usize) -> InlineSiteSymbol
+    requires { ⌜ 14 ≤ length (now s) ⌝ }
+    requires { ⌜ start ≤ length (now s) ⌝ }
+    ensures { λ r. ⌜ InlineSite r ≡ filled (4 ∷ 4 ∷ 4 ∷ []) inlineSiteOf (now (s .entry)) 2 invocations (left (now (s .entry)) start) ⌝ }
+{
+    InlineSiteSymbol {
+        parent: records::index_of(common::u32_at(s, 2)),
+        end: common::u32_at(s, 6),
+        inlinee: common::u32_at(s, 10),
+        invocations,
+        annotations: Part {
+            start,
+            len: s.len() - start,
+        },
+    }
+}
+
 // An inline site without a count of its invocations.
 fn parse_plain_site(s: &[u8]) -> Decoded
     ensures { λ r. ⌜ decodedOf r ≡ plainSite (now (s .entry)) 2 ⌝ }
@@ -20,16 +43,7 @@ fn parse_plain_site(s: &[u8]) -> Decoded
     if s.len() < 14 {
         return Decoded::Refused(Refusal::UNEXPECTED_EOF);
     }
-    let data = InlineSiteSymbol {
-        parent: records::index_of(common::u32_at(s, 2)),
-        end: common::u32_at(s, 6),
-        inlinee: common::u32_at(s, 10),
-        invocations: OptionU32::None,
-        annotations: Part {
-            start: 14,
-            len: s.len() - 14,
-        },
-    };
+    let data = inline_site(s, OptionU32::None, 14);
     Decoded::Record(SymbolData::InlineSite(data), s.len())
 }
 
@@ -40,16 +54,7 @@ fn parse_counted_site(s: &[u8]) -> Decoded
     if s.len() < 18 {
         return Decoded::Refused(Refusal::UNEXPECTED_EOF);
     }
-    let data = InlineSiteSymbol {
-        parent: records::index_of(common::u32_at(s, 2)),
-        end: common::u32_at(s, 6),
-        inlinee: common::u32_at(s, 10),
-        invocations: OptionU32::Some(common::u32_at(s, 14)),
-        annotations: Part {
-            start: 18,
-            len: s.len() - 18,
-        },
-    };
+    let data = inline_site(s, OptionU32::Some(common::u32_at(s, 14)), 18);
     Decoded::Record(SymbolData::InlineSite(data), s.len())
 }
 

@@ -14,8 +14,8 @@ use Rattle.references.specs.Reference.{dataReference, dataReferenceOf, optional
 use Rattle.entries.specs.Entries.{skip}
 use Rattle.registers.specs.Registers.{registerList}
 use Rattle.registers.proofs.Lists.{list-value, list-refused}
-use Rattle.inline_sites.specs.Inline.{countedSite, countedSiteOf, plainSite, plainSiteOf, rest}
-use Rattle.inline_sites.proofs.Rows.{counted-row, plain-row}
+use Rattle.inline_sites.specs.Inline.{countedSite, plainSite, rest}
+use Rattle.inline_sites.proofs.Rows.{counted-row, plain-row, plainSiteOf, countedSiteOf}
 use Rattle.symbol_name.specs.Name.{namedBy}
 use Rattle.symbol_name.specs.Behind.{answered, nothingBehind, entriesBehind}
 use Rattle.symbol_name.specs.declared.Named.the-variants as N

@@ -59,13 +59,10 @@ fn unnamed_record(s: &[u8], kind: u16, record: NamedRecord) -> Named
 }
 
 // A reference: records of old kinds have no name.
-fn optional_behind(s: &[u8], at: usize, kind: u16) -> Named
-    ensures { λ r. ⌜ r ≡ answered (λ o. o) (behind (optionalName kind) at (now (s .entry))) ⌝ }
+fn reference_name(s: &[u8], kind: u16) -> Named
+    ensures { λ r. ⌜ r ≡ answered (λ o. o) (behind (optionalName kind) 12 (now (s .entry))) ⌝ }
 {
-    if s.len() < at {
-        return Named::Refused(Refusal::UNEXPECTED_EOF);
-    }
-    match references::parse_optional_name(s, at, kind) {
+    match references::parse_optional_name(s, kind) {
         ParsedOptionPart::Value(name, _) => Named::Answer(name),
         ParsedOptionPart::Refused(e) => Named::Refused(e),
     }
@@ -190,8 +187,8 @@ fn name_by_kind(s: &[u8], kind: u16) -> Named
         Class::ThreadStorage => named_record(s, kind, NamedRecord::ThreadStorage),
         Class::CompileFlags => compile_name(s, kind),
         Class::UsingNamespace => named_record(s, kind, NamedRecord::UsingNamespace),
-        Class::ProcedureReference => optional_behind(s, 12, kind),
-        Class::DataReference => optional_behind(s, 12, kind),
+        Class::ProcedureReference => reference_name(s, kind),
+        Class::DataReference => reference_name(s, kind),
         Class::AnnotationReference => named_record(s, kind, NamedRecord::AnnotationReference),
         Class::Trampoline => bare_record(s, FixedRecord::Trampoline),
         Class::Export => named_record(s, kind, NamedRecord::Export),
