@@ -2,7 +2,7 @@
  * Mitrelilac reads CodeView symbol streams, the records of a Windows PDB's module and symbol streams, and says which scopes a
  * record belongs to. This header is its manual; a whole program is examples/scopes.c.
  *
- *     cc -Iinclude program.c target/staticlib/libmitrelilac.a        x86-64 Linux; nothing else to link
+ *     cc -Iinclude program.c target/staticlib/libmitrelilac.a        x86-64 Linux; nothing more than the C library
  *
  *
  * STREAMS AND RECORDS

@@ -19,6 +19,7 @@ left s at = record { start = at; len = length s - at }
 unfoldable pub rest : Reader Part
 rest s at = value (left s at) (length s)
 
+-- the record of both structures: INLINESITESYM counts no invocations
 abbrev pub inlineSiteOf : ℕ → ℕ → ℕ → OptionU32 → Part → SymbolData
 inlineSiteOf parent end inlinee invocations annotations =
     InlineSite (record { parent = indexOf parent; end = end; inlinee = inlinee; invocations = invocations; annotations = annotations })
