@@ -9,19 +9,19 @@ use Rattle.constants.specs.Kind.{classOf}
 use Rattle.constants.specs.declared.Class.{Class}
 use Rattle.constants.specs.declared.Class.the-variants.{Unknown, ScopeEnd, ObjName, RegisterVariable, Constant, UserDefinedType, MultiRegisterVariable, Data, Public, Procedure, ThreadStorage, CompileFlags, UsingNamespace, ProcedureReference, DataReference, AnnotationReference, Trampoline, Export, Local, BuildInfo, InlineSite, InlineSiteEnd, ProcedureEnd, Label, Block, RegisterRelative, Thunk, SeparatedCode}
 use Rattle.records.specs.declared.SymbolData.{SymbolData}
-use Rattle.modules.specs.Module.{objName, usingNamespace, buildInfo}
-use Rattle.compile_flags.specs.Compile.{compile}
-use Rattle.variables.specs.Variable.{registerVariable, constant, userDefinedType}
-use Rattle.storage.specs.Storage.{dataItem, threadStorage}
-use Rattle.locals.specs.Local.{local, registerRelative}
+use Rattle.compiland.specs.Module.{objName, usingNamespace, buildInfo}
+use Rattle.compiland.specs.Compile.{compile}
+use Rattle.data.specs.Variable.{registerVariable, constant, userDefinedType}
+use Rattle.data.specs.Storage.{dataItem, threadStorage}
+use Rattle.data.specs.Local.{local, registerRelative}
 use Rattle.registers.specs.Registers.{multiRegisterVariable}
-use Rattle.references.specs.Reference.{procedureReference, dataReference, annotationReference}
-use Rattle.linkage.specs.Linkage.{publicSymbol, exportSymbol, trampoline}
-use Rattle.procedures.specs.Procedure.{procedure, label}
-use Rattle.blocks.specs.Block.{block, separatedCode}
-use Rattle.inline_sites.specs.Inline.{inlineSite}
-use Rattle.thunks.specs.Thunk.{thunk}
-use Rattle.ends.specs.End.{scopeEnd, inlineSiteEnd, procedureEnd}
+use Rattle.compiland.specs.Reference.{procedureReference, dataReference, annotationReference}
+use Rattle.compiland.specs.Linkage.{publicSymbol, exportSymbol, trampoline}
+use Rattle.code.specs.Procedure.{procedure, label}
+use Rattle.code.specs.Block.{block, separatedCode}
+use Rattle.code.specs.Inline.{inlineSite}
+use Rattle.code.specs.Thunk.{thunk}
+use Rattle.code.specs.End.{scopeEnd, inlineSiteEnd, procedureEnd}
 
 -- the layout of each class; 3 with the kind where there is none
 unfoldable pub layout : Class → ℕ → Reader SymbolData

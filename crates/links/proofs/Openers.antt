@@ -22,10 +22,10 @@ use Rattle.records.specs.Field.{indexOf, orZero32}
 use Rattle.records.specs.declared.OptionPart.{OptionPart}
 use Rattle.records.specs.declared.OptionU32.the-variants as U32
 use Rattle.records.specs.declared.SymbolData.{SymbolData}
-use Rattle.procedures.specs.Procedure.{procedure}
-use Rattle.blocks.specs.Block.{block, separatedCode}
-use Rattle.inline_sites.specs.Inline.{plainSite, countedSite, inlineSite}
-use Rattle.thunks.specs.Thunk.{thunk}
+use Rattle.code.specs.Procedure.{procedure}
+use Rattle.code.specs.Block.{block, separatedCode}
+use Rattle.code.specs.Inline.{plainSite, countedSite, inlineSite}
+use Rattle.code.specs.Thunk.{thunk}
 use Rattle.layouts.specs.Decode.{layout, byKind, decode}
 use Rattle.symbol_name.specs.Name.{namedBy, nameOf}
 use Rattle.symbol_name.specs.declared.Named.the-variants as N

@@ -14,13 +14,13 @@ use Rattle.variant.specs.Numeric as Q
 use Rattle.variant.specs.declared.Variant.the-variants.{I16, U8}
 use Rattle.constants.specs.Kind as K
 use Rattle.records.specs.declared.SymbolData.the-variants.{Constant, UserDefinedType}
-use Rattle.variables.specs.Variable as L
+use Rattle.data.specs.Variable as L
 use Rattle.layouts.specs.Decode.{layout, byKind, decode}
 use Rattle.iter.specs.Reading.{readFrom, readOf}
 use Rattle.iter.specs.Step.{frameAt, scanFrom, scanOf, stepOf}
 use Rattle.iter.specs.declared.Next.the-variants.{End, Refused}
 use Rattle.kind.specs.Raw.{rawKind, nestingRoleOf}
-use Rattle.blocks.specs.Block as S
+use Rattle.code.specs.Block as S
 use Rattle.links.specs.Links.{linksOf}
 use Rattle.chain.specs.Chain.{chainOf}
 use Rattle.act.specs.Act.{actOf}

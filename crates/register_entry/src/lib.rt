@@ -7,6 +7,8 @@ use common::Refusal;
 use constants::S_MANYREG2;
 use constants::S_MANYREG2_ST;
 use entries::ParsedEntry;
+use registers::LONG_LIST;
+use registers::SHORT_LIST;
 use symbol_name::Named;
 
 fn nothing_there() -> ParsedEntry
@@ -41,15 +43,15 @@ fn list_entry(s: &[u8], kind: u16, k: usize) -> ParsedEntry
     ensures { λ r. ⌜ entryOf r ≡ listEntry kind k (now (s .entry)) 2 ⌝ }
 {
     if (kind == S_MANYREG2) | (kind == S_MANYREG2_ST) {
-        if s.len() < 8 {
+        if s.len() < LONG_LIST {
             return ParsedEntry::Refused(Refusal::UNEXPECTED_EOF);
         }
-        counted_entry(s, 8, kind, common::u16_at(s, 6), k)
+        counted_entry(s, LONG_LIST, kind, common::u16_at(s, 6), k)
     } else {
-        if s.len() < 7 {
+        if s.len() < SHORT_LIST {
             return ParsedEntry::Refused(Refusal::UNEXPECTED_EOF);
         }
-        counted_entry(s, 7, kind, common::u8_at(s, 6) as u16, k)
+        counted_entry(s, SHORT_LIST, kind, common::u8_at(s, 6) as u16, k)
     }
 }
 

@@ -12,6 +12,11 @@ use records::Decoded;
 use records::MultiRegisterVariableSymbol;
 use records::SymbolData;
 
+// Where the entries start: behind the kind, the type and a count of two bytes, or of one.
+pub const LONG_LIST: usize = 8;
+
+pub const SHORT_LIST: usize = 7;
+
 // The record whose list of `count` entries starts at `first`.
 fn register_list(s: &[u8], first: usize, kind: u16, type_index: u32, count: u16) -> Decoded
     ensures { λ r. ⌜ decodedOf r ≡ registerList kind «type_index» count (now (s .entry)) first ⌝ }
@@ -33,13 +38,25 @@ pub fn parse_multi_register_variable(s: &[u8], kind: u16) -> Decoded
     ensures { λ r. ⌜ decodedOf r ≡ multiRegisterVariable kind (now (s .entry)) 2 ⌝ }
 {
     if (kind == S_MANYREG2) | (kind == S_MANYREG2_ST) {
-        if s.len() < 8 {
+        if s.len() < LONG_LIST {
             return Decoded::Refused(Refusal::UNEXPECTED_EOF);
         }
-        return register_list(s, 8, kind, common::u32_at(s, 2), common::u16_at(s, 6));
+        return register_list(
+            s,
+            LONG_LIST,
+            kind,
+            common::u32_at(s, 2),
+            common::u16_at(s, 6),
+        );
     }
-    if s.len() < 7 {
+    if s.len() < SHORT_LIST {
         return Decoded::Refused(Refusal::UNEXPECTED_EOF);
     }
-    register_list(s, 7, kind, common::u32_at(s, 2), common::u8_at(s, 6) as u16)
+    register_list(
+        s,
+        SHORT_LIST,
+        kind,
+        common::u32_at(s, 2),
+        common::u8_at(s, 6) as u16,
+    )
 }

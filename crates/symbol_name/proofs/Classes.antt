@@ -10,12 +10,12 @@ use Rattle.common.specs.Reader.{Read, value, refused, runsOut}
 use Rattle.common.specs.Row.{behind}
 use Rattle.common.proofs.Rows.{tailed}
 use Rattle.records.specs.declared.OptionPart.the-variants.{None}
-use Rattle.references.specs.Reference.{dataReference, dataReferenceOf, optionalName, procedureReference, procedureReferenceOf, reference}
+use Rattle.compiland.specs.Reference.{dataReference, dataReferenceOf, optionalName, procedureReference, procedureReferenceOf, reference, referenceRow}
 use Rattle.entries.specs.Entries.{skip}
 use Rattle.registers.specs.Registers.{registerList}
 use Rattle.registers.proofs.Lists.{list-value, list-refused}
-use Rattle.inline_sites.specs.Inline.{countedSite, plainSite, rest}
-use Rattle.inline_sites.proofs.Rows.{counted-row, plain-row, plainSiteOf, countedSiteOf}
+use Rattle.code.specs.Inline.{countedSite, plainSite, rest}
+use Rattle.code.proofs.Rows.{counted-row, plain-row, plainSiteOf, countedSiteOf}
 use Rattle.symbol_name.specs.Name.{namedBy}
 use Rattle.symbol_name.specs.Behind.{answered, nothingBehind, entriesBehind}
 use Rattle.symbol_name.specs.declared.Named.the-variants as N
@@ -23,11 +23,11 @@ use Rattle.symbol_name.proofs.Rows.{row-name}
 
 pub procedure-reference-name : (kind : ℕ) (s : List ℕ) → 2 ≤ length s → answered (λ o. o) (behind (optionalName kind) 12 s) ≡ namedBy (procedureReference kind s 2)
 unfolding procedureReference reference tailed
-procedure-reference-name kind s g = row-name (λ o. o) (4 ∷ 4 ∷ 2 ∷ []) (optionalName kind) (procedureReferenceOf kind) (λ a b c n. refl) s g
+procedure-reference-name kind s g = row-name (λ o. o) referenceRow (optionalName kind) (procedureReferenceOf kind) (λ a b c n. refl) s g
 
 pub data-reference-name : (kind : ℕ) (s : List ℕ) → 2 ≤ length s → answered (λ o. o) (behind (optionalName kind) 12 s) ≡ namedBy (dataReference kind s 2)
 unfolding dataReference reference tailed
-data-reference-name kind s g = row-name (λ o. o) (4 ∷ 4 ∷ 2 ∷ []) (optionalName kind) dataReferenceOf (λ a b c n. refl) s g
+data-reference-name kind s g = row-name (λ o. o) referenceRow (optionalName kind) dataReferenceOf (λ a b c n. refl) s g
 
 -- annotations are all that is left, so that reading them refuses nothing
 nothing-of-rest : (at : ℕ) (s : List ℕ) → nothingBehind at s ≡ answered (λ a. None) (behind rest at s)

@@ -16,12 +16,6 @@ use Rattle.names.specs.declared.Part.{Part}
 use Rattle.records.specs.declared.OptionPart.{OptionPart}
 use Rattle.records.specs.declared.OptionPart.the-variants.{None}
 use Rattle.records.specs.declared.SymbolData.{SymbolData}
-use Rattle.record_names.specs.Row.{namedRow}
-use Rattle.record_names.specs.declared.NamedRecord.{NamedRecord}
-use Rattle.layouts.proofs.Rows.{namedLayout, namedOf, named-row}
-use Rattle.fixed_records.specs.Fixed.{fixedRow}
-use Rattle.fixed_records.specs.declared.FixedRecord.{FixedRecord}
-use Rattle.fixed_records.proofs.Rows.{fixedLayout, fixedOf, fixed-row}
 use Rattle.symbol_name.specs.Name.{nameIn, namedBy}
 use Rattle.symbol_name.specs.Behind.{answered, nothingBehind}
 use Rattle.symbol_name.specs.declared.Named.the-variants as N
@@ -52,7 +46,7 @@ row-name {B} f ws m make n s g = go (behind m (2 + total ws) s) refl
     go (refused x) e = ap namedBy (behind-refused ws m make s 2 g (sym e))
 
 -- a row that starts at 2, and nothing behind it
-row-no-name : (ws : List ℕ) (make : Fields ws SymbolData) → Unnamed ws make → (s : List ℕ) → 2 ≤ length s → nothingBehind (2 + total ws) s ≡ namedBy (fixed ws make s 2)
+pub row-no-name : (ws : List ℕ) (make : Fields ws SymbolData) → Unnamed ws make → (s : List ℕ) → 2 ≤ length s → nothingBehind (2 + total ws) s ≡ namedBy (fixed ws make s 2)
 unfolding nothingBehind
 row-no-name ws make n s g = go (ltb (length s) (2 + total ws)) refl
   where
@@ -60,8 +54,9 @@ row-no-name ws make n s g = go (ltb (length s) (2 + total ws)) refl
     go true e = ap namedBy (sym (fixed-short-within ws make s 2 g (ltb-true _ _ e)))
     go false e = ap N.Answer (sym (unnamed-filled ws make n s 2)) ∙ ap namedBy (fixed-value ws make s 2 (ltb-false _ _ e))
 
-pub named-name : (f : Part → OptionPart) (r : NamedRecord) (kind : ℕ) → Names f (namedRow r) (namedOf r kind) → (s : List ℕ) → 2 ≤ length s → answered f (behind (symbolName kind) (2 + total (namedRow r)) s) ≡ namedBy (namedLayout r kind s 2)
-named-name f r kind n s g = row-name f (namedRow r) (symbolName kind) (namedOf r kind) n s g ∙ ap namedBy (named-row r kind s 2)
+-- the name of a layout is what f makes of what stands at a position; or nothing stands there
+abbrev pub NamedAt : (Part → OptionPart) → ℕ → (ℕ → Reader SymbolData) → Type 0
+NamedAt f at layout = (kind : ℕ) (s : List ℕ) → 2 ≤ length s → answered f (behind (symbolName kind) at s) ≡ namedBy (layout kind s 2)
 
-pub bare-name : (r : FixedRecord) → Unnamed (fixedRow r) (fixedOf r) → (s : List ℕ) → 2 ≤ length s → nothingBehind (2 + total (fixedRow r)) s ≡ namedBy (fixedLayout r s 2)
-bare-name r n s g = row-no-name (fixedRow r) (fixedOf r) n s g ∙ ap namedBy (fixed-row r s 2)
+abbrev pub EndsAt : ℕ → Reader SymbolData → Type 0
+EndsAt at layout = (s : List ℕ) → 2 ≤ length s → nothingBehind at s ≡ namedBy (layout s 2)

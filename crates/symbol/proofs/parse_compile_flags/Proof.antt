@@ -2,7 +2,7 @@
 -- Assumes nothing.
 use borrow.Author.Needs.{needs}
 use borrow.Author.Tests.{eq-eqb, ne-eqb}
-use Rattle.compile_flags.specs.Compile.{compile}
+use Rattle.compiland.specs.Compile.{compile}
 use Rattle.symbol.proofs.parse_compile_flags.Statement.{statement}
 use Rattle.symbol.proofs.parse_compile_flags.Tie as tie
 

@@ -4,7 +4,7 @@ use borrow.Author.Needs.{needs}
 use mathlib.Core.Path.{sym, ap, _∙_}
 use Rattle.names.specs.Answer.{partOf}
 use Rattle.variant.specs.Answer.{variantOf}
-use Rattle.variables.proofs.Constant.{constant-short, constant-refused, constant-unnamed, constant-value}
+use Rattle.data.proofs.Constant.{constant-short, constant-refused, constant-unnamed, constant-value}
 use Rattle.symbol_name.specs.Name.{namedBy}
 use Rattle.symbol_name.proofs.constant_name.Statement.{statement}
 use Rattle.symbol_name.proofs.constant_name.Tie as tie

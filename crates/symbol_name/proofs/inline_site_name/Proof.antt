@@ -3,7 +3,7 @@
 use borrow.Author.Needs.{needs}
 use borrow.Author.Tests.{eq-eqb, ne-eqb}
 use mathlib.Core.Path.{_∙_}
-use Rattle.inline_sites.specs.Inline.{inlineSite}
+use Rattle.code.specs.Inline.{inlineSite}
 use Rattle.symbol_name.proofs.Classes.{plain-site-name, counted-site-name}
 use Rattle.symbol_name.proofs.inline_site_name.Statement.{statement}
 use Rattle.symbol_name.proofs.inline_site_name.Tie as tie

@@ -9,10 +9,10 @@ use Rattle.symbol_name.proofs.named_record.Statement.{statement}
 use Rattle.symbol_name.proofs.named_record.Tie as tie
 
 returns : tie.Need-returns
-returns c = ap (answered Some) (sym (ap partOf (c .before .name .given .1)) ∙ c .before .before .before .parse-name .ensures)
+returns c = ap (answered Some) (sym (ap partOf (c .before .name .given .1)) ∙ c .before .before .before .name-behind .ensures)
 
 returns-2 : tie.Need-returns-2
-returns-2 c = ap (answered Some) (sym (ap partOf (c .before .e .given .1)) ∙ c .before .before .before .parse-name .ensures)
+returns-2 c = ap (answered Some) (sym (ap partOf (c .before .e .given .1)) ∙ c .before .before .before .name-behind .ensures)
 
 pub named-record-spec : {M : Type 1} → statement M
 named-record-spec =

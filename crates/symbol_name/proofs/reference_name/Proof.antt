@@ -2,7 +2,7 @@
 -- Assumes nothing.
 use borrow.Author.Needs.{needs}
 use mathlib.Core.Path.{sym, ap, _∙_}
-use Rattle.references.specs.Answer.{optionalOf}
+use Rattle.compiland.specs.Answer.{optionalOf}
 use Rattle.records.specs.declared.OptionPart.{OptionPart}
 use Rattle.symbol_name.specs.Behind.{answered}
 use Rattle.symbol_name.proofs.reference_name.Statement.{statement}

@@ -3,8 +3,8 @@
 use borrow.Author.Needs.{needs}
 use mathlib.Core.Path.{sym, ap, _∙_}
 use Rattle.names.specs.Answer.{partOf}
-use Rattle.thunks.specs.Answer.{thunkKindOf}
-use Rattle.thunks.proofs.Rows.{thunk-short, thunk-name-refused, thunk-variant-refused, thunk-value}
+use Rattle.code.specs.Answer.{thunkKindOf}
+use Rattle.code.proofs.ThunksRows.{thunk-short, thunk-name-refused, thunk-variant-refused, thunk-value}
 use Rattle.symbol_name.specs.Name.{namedBy}
 use Rattle.symbol_name.proofs.thunk_name.Statement.{statement}
 use Rattle.symbol_name.proofs.thunk_name.Tie as tie

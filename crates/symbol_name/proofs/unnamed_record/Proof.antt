@@ -10,10 +10,10 @@ use Rattle.symbol_name.proofs.unnamed_record.Statement.{statement}
 use Rattle.symbol_name.proofs.unnamed_record.Tie as tie
 
 returns : tie.Need-returns
-returns c = ap (answered (λ (n : Part). None)) (sym (ap partOf (c .enum-told .given .1)) ∙ c .before .before .parse-name .ensures)
+returns c = ap (answered (λ (n : Part). None)) (sym (ap partOf (c .enum-told .given .1)) ∙ c .before .before .name-behind .ensures)
 
 returns-2 : tie.Need-returns-2
-returns-2 c = ap (answered (λ (n : Part). None)) (sym (ap partOf (c .before .e .given .1)) ∙ c .before .before .before .parse-name .ensures)
+returns-2 c = ap (answered (λ (n : Part). None)) (sym (ap partOf (c .before .e .given .1)) ∙ c .before .before .before .name-behind .ensures)
 
 pub unnamed-record-spec : {M : Type 1} → statement M
 unnamed-record-spec =

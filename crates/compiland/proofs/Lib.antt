@@ -1,0 +1,2 @@
+pub mod OptionalName
+pub mod Rows

@@ -1,0 +1,17 @@
+-- `storage::data_item` meets its contract.
+-- Assumes nothing.
+use borrow.Author.Needs.{needs}
+use Rattle.data.proofs.storage.data_item.Statement.{statement}
+use Rattle.data.proofs.storage.data_item.Tie as tie
+
+returns : tie.Need-returns
+returns c = rw (c .u16-at .ensures, c .before .u32-at2 .ensures, c .before .before .u32-at .ensures)
+
+pub data-item-spec : {M : Type 1} → statement M
+data-item-spec =
+    tie.close
+    (tie.spec
+    (λ c κs. search needs)
+    (λ c κs. search needs)
+    (λ c κs. search needs)
+    returns)

@@ -1,2 +1,0 @@
-pub mod Thunk
-pub mod Answer
