@@ -12,8 +12,8 @@ use Rattle.iter.specs.Step.{scanOf}
 use Rattle.iter.specs.Reading.{Rec}
 use Rattle.iter.specs.declared.Next.the-variants as N
 use Rattle.iter.proofs.Reading.{step-fits}
-use Rattle.finding.specs.Finding.{Walk, seen}
-use Rattle.finding.specs.declared.Outcome.the-variants.{Answer, Refused}
+use Rattle.chain.specs.Finding.{Walk, seen}
+use Rattle.chain.specs.declared.finding.Outcome.the-variants.{Answer, Refused}
 use Rattle.walk.proofs.Walks.{walkAt}
 use Rattle.jump.specs.Jump.{jumpFrom}
 use Rattle.check_nesting.specs.Check.{Open}

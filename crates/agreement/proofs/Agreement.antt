@@ -14,15 +14,15 @@ use Rattle.iter.specs.declared.Next.the-variants as N
 use Rattle.iter.proofs.Reading.{step-fits, read-by}
 use Rattle.iter.proofs.Records.{Rising, rising}
 use Rattle.chain.specs.Chain.{chainOf}
-use Rattle.kind.specs.Raw.{nestingRoleOf}
-use Rattle.finding.specs.Finding.{Walk, seen, foundBy, refusedBy, answerOf, findingOf}
-use Rattle.finding.specs.declared.Outcome.{Outcome}
-use Rattle.finding.specs.declared.Outcome.the-variants.{Answer, Refused}
+use Rattle.constants.specs.Raw.{nestingRoleOf}
+use Rattle.chain.specs.Finding.{Walk, seen, foundBy, refusedBy, answerOf, findingOf}
+use Rattle.chain.specs.declared.finding.Outcome.{Outcome}
+use Rattle.chain.specs.declared.finding.Outcome.the-variants.{Answer, Refused}
 use Rattle.walk.specs.Walk.{walkOf}
 use Rattle.walk.proofs.Walks.{walkAt}
 use Rattle.jump.specs.Jump.{jumpFrom, jumpOf}
 use Rattle.climb.specs.Climb.{reachedBy, climbOf}
-use Rattle.opener.specs.declared.Opener.the-variants.{Parent}
+use Rattle.climb.specs.declared.opener.Opener.the-variants.{Parent}
 use Rattle.check_nesting.specs.Check.{Open}
 use Rattle.check_nesting.proofs.Checks.{indexes, length-each}
 use Rattle.agreement.specs.Agreement.{Some, Begins, OpenerBegins, BothAnswer, ClimbsThem, Agreement, Condition3, answersOf}

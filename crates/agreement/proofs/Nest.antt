@@ -16,13 +16,13 @@ use Rattle.iter.specs.Reading.{Reading, recAt, more, readOf}
 use Rattle.iter.specs.declared.Next.{Next}
 use Rattle.iter.specs.declared.Next.the-variants as N
 use Rattle.iter.proofs.Records.{read-ind}
-use Rattle.kind.specs.Raw.{nestingRoleOf}
+use Rattle.constants.specs.Raw.{nestingRoleOf}
 use Rattle.links.specs.Links.{linksOf}
 use Rattle.links.specs.declared.Links.{Links}
 use Rattle.links.specs.declared.Links.the-variants.{Unread, Read}
-use Rattle.act.specs.declared.Act.{Act}
-use Rattle.act.specs.declared.Act.the-variants.{Push, Pop, Refused as Stop}
-use Rattle.act.specs.Act.{openOf, actOfRole, actOf}
+use Rattle.check_nesting.specs.declared.act.Act.{Act}
+use Rattle.check_nesting.specs.declared.act.Act.the-variants.{Push, Pop, Refused as Stop}
+use Rattle.check_nesting.specs.Act.{openOf, actOfRole, actOf}
 use Rattle.check_nesting.specs.declared.Counts.{Counts}
 use Rattle.check_nesting.specs.declared.Checked.the-variants.{Good}
 use Rattle.check_nesting.specs.Check.{Open, innerIndex, innerEnd, noCounts, onAct, endOf, onLast, checkOn, checkFrom, checkOf}

@@ -14,13 +14,13 @@ use Rattle.iter.specs.declared.Next.the-variants as N
 use Rattle.iter.specs.declared.Scan.{Scan}
 use Rattle.iter.proofs.Records.{again}
 use Rattle.chain.specs.Chain.{chainOf}
-use Rattle.kind.specs.Raw.{nestingRoleOf}
+use Rattle.constants.specs.Raw.{nestingRoleOf}
 use Rattle.links.specs.Links.{linksOf}
 use Rattle.links.specs.declared.Links.the-variants.{Read}
 use Rattle.check_nesting.specs.Check.{Open, innerIndex}
 use Rattle.check_nesting.proofs.Checks.{indexes}
-use Rattle.opener.specs.declared.Opener.the-variants.{Parent}
-use Rattle.opener.specs.Opener.{openerOn, openerOf}
+use Rattle.climb.specs.declared.opener.Opener.the-variants.{Parent}
+use Rattle.climb.specs.Opener.{openerOn, openerOf}
 use Rattle.climb.specs.Climb.{reachedBy, climbBy, climbOn, climbOf}
 use Rattle.climb.proofs.Climbs.{climb-top, climb-below}
 use Rattle.agreement.specs.Agreement.{reversed}

@@ -12,8 +12,8 @@ use Rattle.iter.specs.declared.Scan.{Scan}
 use Rattle.iter.specs.declared.Next.the-variants as N
 use Rattle.iter.proofs.Reading.{step-fits}
 use Rattle.iter.proofs.Records.{again}
-use Rattle.kind.specs.Raw.{nestingRoleOf}
-use Rattle.finding.specs.Finding.{Walk, seen}
+use Rattle.constants.specs.Raw.{nestingRoleOf}
+use Rattle.chain.specs.Finding.{Walk, seen}
 use Rattle.walk.proofs.Walks.{walkAt}
 use Rattle.check_nesting.specs.Check.{Open}
 use Rattle.check_nesting.proofs.Checks.{indexes, length-each}

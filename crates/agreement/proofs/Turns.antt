@@ -13,22 +13,22 @@ use Rattle.constants.specs.declared.Role.the-variants.{Neither, Opens, Closes}
 use Rattle.iter.specs.Step.{scanOf}
 use Rattle.iter.specs.Reading.{Rec, recAt}
 use Rattle.iter.specs.declared.Next.the-variants as N
-use Rattle.kind.specs.Raw.{nestingRoleOf}
+use Rattle.constants.specs.Raw.{nestingRoleOf}
 use Rattle.links.specs.Links.{linksOf}
 use Rattle.links.specs.declared.Links.{Links}
 use Rattle.links.specs.declared.Links.the-variants.{Read}
-use Rattle.finding.specs.Finding.{Walk, seen, stops}
-use Rattle.finding.specs.declared.Outcome.the-variants.{Answer}
+use Rattle.chain.specs.Finding.{Walk, seen, stops}
+use Rattle.chain.specs.declared.finding.Outcome.the-variants.{Answer}
 use Rattle.walk.specs.declared.Turn.{Turn}
 use Rattle.walk.specs.declared.Turn.the-variants as T
 use Rattle.walk.specs.Walk.{turnOf, onTurn}
 use Rattle.walk.proofs.Walks.{turn-role, walkAt, walk-by}
-use Rattle.hop.specs.declared.Hop.{Hop}
-use Rattle.hop.specs.declared.Hop.the-variants as H
-use Rattle.hop.specs.declared.Land.{Land}
-use Rattle.hop.specs.declared.Land.the-variants as L
-use Rattle.hop.specs.Hop.{openHop, hopOf, missed, landRole, landOn, landOf}
-use Rattle.hop.proofs.Hops.{hop-role}
+use Rattle.jump.specs.declared.hop.Hop.{Hop}
+use Rattle.jump.specs.declared.hop.Hop.the-variants as H
+use Rattle.jump.specs.declared.hop.Land.{Land}
+use Rattle.jump.specs.declared.hop.Land.the-variants as L
+use Rattle.jump.specs.Hop.{openHop, hopOf, missed, landRole, landOn, landOf}
+use Rattle.jump.proofs.Hops.{hop-role}
 use Rattle.jump.specs.Jump.{yieldedAt, onLand, onHop, jumpFrom}
 use Rattle.jump.proofs.Jumps.{jump-by}
 use Rattle.agreement.proofs.Nest.{bytesAt}

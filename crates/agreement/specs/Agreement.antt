@@ -9,13 +9,13 @@ use Rattle.constants.specs.declared.Role.the-variants.{Opens}
 use Rattle.iter.specs.Reading.{Rec, readOf}
 use Rattle.chain.specs.Chain.{chainOf}
 use Rattle.chain.specs.declared.Chain.{Chain}
-use Rattle.kind.specs.Raw.{nestingRoleOf}
+use Rattle.constants.specs.Raw.{nestingRoleOf}
 use Rattle.check_nesting.specs.declared.Counts.{Counts}
 use Rattle.check_nesting.specs.declared.Checked.the-variants.{Good}
 use Rattle.check_nesting.specs.Check.{checkOf}
-use Rattle.finding.specs.declared.Outcome.the-variants.{Answer}
-use Rattle.finding.specs.declared.Finding.{Finding}
-use Rattle.finding.specs.Finding.{refusedBy}
+use Rattle.chain.specs.declared.finding.Outcome.the-variants.{Answer}
+use Rattle.chain.specs.declared.finding.Finding.{Finding}
+use Rattle.chain.specs.Finding.{refusedBy}
 use Rattle.walk.specs.Walk.{walkFrom, walkOf}
 use Rattle.jump.specs.Jump.{jumpOf}
 use Rattle.climb.specs.declared.Ascent.{Ascent}

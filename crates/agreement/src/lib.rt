@@ -4,9 +4,9 @@
 // a theorem over their definitions, proofs/Agreement.antt.
 ghost use mathlib.Core.Path.{_≡_};
 ghost use Rattle.agreement.specs.Agreement.{answersOf, Condition3};
+use chain::finding::Finding;
 use check_nesting::Checked;
 use climb::Ascent;
-use finding::Finding;
 
 // What the four calls return.
 pub struct Answers {

@@ -1,5 +1,7 @@
 // A chain of up to 64 positions: the answer of the finders, and the stack of open scopes. Walk and jump list the outermost first, climb
 // the innermost.
+pub mod finding;
+
 ghost use mathlib.Core.Path.{_≡_};
 ghost use mathlib.Core.List.{[]};
 ghost use Rattle.chain.specs.Chain.{chainOf};

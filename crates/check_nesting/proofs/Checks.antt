@@ -19,10 +19,10 @@ use Rattle.iter.proofs.Records.{bytes-length, skipped-to}
 use Rattle.chain.specs.Chain.{chainOf, topOf}
 use Rattle.chain.specs.declared.Chain.{Chain}
 use Rattle.chain.proofs.Laws.{pushed, popped, stack-depth, push-stack, pop-stack, length-tail, top-stack, top-none}
-use Rattle.act.specs.declared.Act.{Act}
-use Rattle.act.specs.declared.Act.the-variants.{Stay, Push, Pop, Refused as Stop}
-use Rattle.act.specs.Act.{actOf}
-use Rattle.act.proofs.Acts.{Room, room}
+use Rattle.check_nesting.specs.declared.act.Act.{Act}
+use Rattle.check_nesting.specs.declared.act.Act.the-variants.{Stay, Push, Pop, Refused as Stop}
+use Rattle.check_nesting.specs.Act.{actOf}
+use Rattle.check_nesting.proofs.Acts.{Room, room}
 use Rattle.check_nesting.specs.declared.Counts.{Counts}
 use Rattle.check_nesting.specs.declared.Checked.the-variants.{Refused as Refuse}
 use Rattle.check_nesting.specs.Check.{Open, innerIndex, innerEnd, noCounts, countedOf, openedOf, countRec, refuses, onAct, endOf, onLast, checkOn, checkFrom, checkOf}

@@ -11,9 +11,9 @@ use Rattle.iter.specs.Reading.{Rec, Reading, readOf}
 use Rattle.iter.specs.declared.Scan.{Scan}
 use Rattle.iter.specs.declared.Next.{Next}
 use Rattle.iter.specs.declared.Next.the-variants.{End, Refused, Record}
-use Rattle.act.specs.declared.Act.{Act}
-use Rattle.act.specs.declared.Act.the-variants.{Stay, Push, Pop, Refused as Stop}
-use Rattle.act.specs.Act.{actOf}
+use Rattle.check_nesting.specs.declared.act.Act.{Act}
+use Rattle.check_nesting.specs.declared.act.Act.the-variants.{Stay, Push, Pop, Refused as Stop}
+use Rattle.check_nesting.specs.Act.{actOf}
 use Rattle.check_nesting.specs.declared.Counts.{Counts}
 use Rattle.check_nesting.specs.declared.Checked.{Checked}
 use Rattle.check_nesting.specs.declared.Checked.the-variants.{Good, Refused as Refuse}

@@ -1,6 +1,8 @@
 // The nesting check: whether the links of a stream's openers say how its records lie in one another, and what it holds.
 //
 // The stack of open openers is the chain of their indexes, and their end fields in the same places of an array, both changed in place.
+pub mod act;
+
 ghost use mathlib.Core.Path.{_≡_};
 ghost use Prim.Native.Nat.{_+_, _-_, _<_, _≤_, _^_};
 ghost use lib.ListN.{set};

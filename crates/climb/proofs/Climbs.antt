@@ -10,9 +10,9 @@ use Rattle.common.specs.declared.Refusal.{Refusal}
 use Rattle.chain.specs.Chain.{chainOf}
 use Rattle.chain.specs.declared.Chain.{Chain}
 use Rattle.chain.proofs.Laws.{pushed, stack-depth, push-stack}
-use Rattle.opener.specs.declared.Opener.{Opener}
-use Rattle.opener.specs.declared.Opener.the-variants as O
-use Rattle.opener.specs.Opener.{openerOf}
+use Rattle.climb.specs.declared.opener.Opener.{Opener}
+use Rattle.climb.specs.declared.opener.Opener.the-variants as O
+use Rattle.climb.specs.Opener.{openerOf}
 use Rattle.climb.specs.Climb.{reachedBy, halts, onParent, climbOn}
 
 -- a turn of the climb: at the top, with no room for a link, at a parent that is not below, and at one below

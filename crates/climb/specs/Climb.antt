@@ -7,10 +7,10 @@ use Rattle.common.specs.Reader.{refusal}
 use Rattle.common.specs.declared.Refusal.{Refusal}
 use Rattle.chain.specs.Chain.{chainOf}
 use Rattle.chain.specs.declared.Chain.{Chain}
-use Rattle.finding.specs.declared.Outcome.the-variants.{Answer, Refused}
-use Rattle.opener.specs.Opener.{openerOf}
-use Rattle.opener.specs.declared.Opener.{Opener}
-use Rattle.opener.specs.declared.Opener.the-variants as O
+use Rattle.chain.specs.declared.finding.Outcome.the-variants.{Answer, Refused}
+use Rattle.climb.specs.Opener.{openerOf}
+use Rattle.climb.specs.declared.opener.Opener.{Opener}
+use Rattle.climb.specs.declared.opener.Opener.the-variants as O
 use Rattle.climb.specs.declared.Ascent.{Ascent}
 
 -- Climbing returns its links.

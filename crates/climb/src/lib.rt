@@ -1,13 +1,15 @@
 // The climb finder: the scopes that enclose an opener, by its parent field and those of its parents.
 //
 // Only steps at the opener and at its parents are made. The chain lists the innermost scope first, in the order climbed.
+pub mod opener;
+
 ghost use mathlib.Core.Path.{_≡_};
 ghost use mathlib.Core.List.{[]};
 ghost use Rattle.common.specs.Reader.{refusal};
 ghost use Rattle.climb.specs.Climb.{reachedBy, haltedBy, climbOn, climbOf};
 use chain::Chain;
+use chain::finding::Outcome;
 use common::Refusal;
-use finding::Outcome;
 use opener::Opener;
 
 // What the climb finder returns: the chain, and the number of links climbed. At a refusal the chain is empty and there are no links.

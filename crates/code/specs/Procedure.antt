@@ -7,7 +7,7 @@ use Rattle.common.specs.Reader.{Reader, _>>=_, done, u8, u16, u32}
 use Rattle.names.specs.Name.{symbolName}
 use Rattle.names.specs.declared.Part.{Part}
 use Rattle.records.specs.Field.{indexOf, place}
-use Rattle.flags.specs.Flags.{procedureFlags}
+use Rattle.records.specs.Flags.{procedureFlags}
 use Rattle.records.specs.declared.SymbolData.{SymbolData}
 use Rattle.records.specs.declared.SymbolData.the-variants.{Procedure, Label}
 

@@ -9,7 +9,6 @@ ghost use Rattle.records.specs.Answer.{decodedOf};
 ghost use Rattle.records.specs.declared.SymbolData.the-variants.{Block, SeparatedCode};
 ghost use Rattle.code.specs.Block.{blockRow, blockOf, block, separatedCodeRow, separatedCodeOf, separatedCode};
 use common::Refusal;
-use flags::SeparatedCodeFlags;
 use names::ParsedPart;
 use names::Part;
 use records::BlockSymbol;
@@ -17,6 +16,7 @@ use records::Decoded;
 use records::SectionOffset;
 use records::SeparatedCodeSymbol;
 use records::SymbolData;
+use records::flags::SeparatedCodeFlags;
 
 // Where the name stands: behind the kind and the fields.
 pub const BLOCK_NAME: usize = 20;
@@ -76,7 +76,7 @@ pub fn parse_separated_code(s: &[u8]) -> Decoded
     ensures { λ r. ⌜ decodedOf r ≡ separatedCode (now (s .entry)) 2 ⌝ }
 {
     if s.len() < SEPARATED_CODE_END {
-        return Decoded::Refused(Refusal::UNEXPECTED_EOF);
+        return Decoded::Refused(Refusal::RUNS_OUT);
     }
     Decoded::Record(
         SymbolData::SeparatedCode(separated_code(s)),

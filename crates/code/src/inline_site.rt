@@ -46,7 +46,7 @@ fn parse_plain_site(s: &[u8]) -> Decoded
     ensures { λ r. ⌜ decodedOf r ≡ plainSite (now (s .entry)) 2 ⌝ }
 {
     if s.len() < PLAIN_ANNOTATIONS {
-        return Decoded::Refused(Refusal::UNEXPECTED_EOF);
+        return Decoded::Refused(Refusal::RUNS_OUT);
     }
     let data = inline_site(s, OptionU32::None, PLAIN_ANNOTATIONS);
     Decoded::Record(SymbolData::InlineSite(data), s.len())
@@ -57,7 +57,7 @@ fn parse_counted_site(s: &[u8]) -> Decoded
     ensures { λ r. ⌜ decodedOf r ≡ countedSite (now (s .entry)) 2 ⌝ }
 {
     if s.len() < COUNTED_ANNOTATIONS {
-        return Decoded::Refused(Refusal::UNEXPECTED_EOF);
+        return Decoded::Refused(Refusal::RUNS_OUT);
     }
     let data = inline_site(
         s,

@@ -13,7 +13,6 @@ use constants::S_GPROC32_ID;
 use constants::S_GPROC32_ST;
 use constants::S_LPROC32_DPC;
 use constants::S_LPROC32_DPC_ID;
-use flags::ProcedureFlags;
 use names::ParsedPart;
 use names::Part;
 use records::Decoded;
@@ -21,6 +20,7 @@ use records::LabelSymbol;
 use records::ProcedureSymbol;
 use records::SectionOffset;
 use records::SymbolData;
+use records::flags::ProcedureFlags;
 
 // Where the name stands: behind the kind and the fields.
 pub const PROCEDURE_NAME: usize = 37;

@@ -8,6 +8,7 @@ ghost use Rattle.records.specs.Answer.{decodedOf};
 ghost use Rattle.code.specs.Thunk.{adjustor, thunkKind, thunk};
 ghost use Rattle.code.specs.Answer.{thunkKindOf};
 use common::Refusal;
+use common::unsigned::ParsedU16;
 use names::ParsedPart;
 use records::Decoded;
 use records::SectionOffset;
@@ -15,7 +16,6 @@ use records::SymbolData;
 use records::ThunkAdjustor;
 use records::ThunkKind;
 use records::ThunkSymbol;
-use unsigned::ParsedU16;
 
 // Where the name stands: behind the kind and the fields.
 pub const THUNK_NAME: usize = 23;
@@ -30,7 +30,7 @@ pub enum ParsedThunkKind {
 fn parse_adjustor(s: &[u8], at: usize) -> ParsedThunkKind
     ensures { λ r. ⌜ thunkKindOf r ≡ adjustor (now (s .entry)) at ⌝ }
 {
-    match unsigned::parse_u16(s, at) {
+    match common::unsigned::parse_u16(s, at) {
         ParsedU16::Value(delta, next) => match names::parse_cstring(s, next) {
             ParsedPart::Value(target, end) => {
                 let data = ThunkAdjustor { delta, target };
@@ -49,7 +49,7 @@ pub fn parse_thunk_kind(s: &[u8], at: usize, code: u8) -> ParsedThunkKind
     match code {
         0 => ParsedThunkKind::Value(ThunkKind::NoType, at),
         1 => parse_adjustor(s, at),
-        2 => match unsigned::parse_u16(s, at) {
+        2 => match common::unsigned::parse_u16(s, at) {
             ParsedU16::Value(entry, next) => ParsedThunkKind::Value(ThunkKind::VCall(entry), next),
             ParsedU16::Refused(e) => ParsedThunkKind::Refused(e),
         },
@@ -63,7 +63,7 @@ pub fn parse_thunk(s: &[u8], kind: u16) -> Decoded
     ensures { λ r. ⌜ decodedOf r ≡ thunk kind (now (s .entry)) 2 ⌝ }
 {
     if s.len() < THUNK_NAME {
-        return Decoded::Refused(Refusal::UNEXPECTED_EOF);
+        return Decoded::Refused(Refusal::RUNS_OUT);
     }
     match names::parse_symbol_name(s, THUNK_NAME, kind) {
         ParsedPart::Value(name, at) => match parse_thunk_kind(s, at, common::u8_at(s, 22)) {

@@ -1,3 +1,4 @@
 pub mod Laws
 pub mod Readers
 pub mod Rows
+pub mod TwosComplement

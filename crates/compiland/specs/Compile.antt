@@ -6,9 +6,9 @@ use lib.Dec.{eqb}
 use Rattle.common.specs.Reader.{Reader, _>>=_, done, u8, u16}
 use Rattle.names.specs.Name.{symbolName}
 use Rattle.names.specs.declared.Part.{Part}
-use Rattle.compilers.specs.Language.{sourceLanguage}
-use Rattle.compilers.specs.Processor.{cpuType}
-use Rattle.flags.specs.Flags.{compileFlags}
+use Rattle.constants.specs.Language.{sourceLanguage}
+use Rattle.constants.specs.Processor.{cpuType}
+use Rattle.records.specs.Flags.{compileFlags}
 use Rattle.records.specs.declared.CompilerVersion.{CompilerVersion}
 use Rattle.records.specs.declared.OptionU16.the-variants.{None, Some}
 use Rattle.records.specs.declared.SymbolData.{SymbolData}

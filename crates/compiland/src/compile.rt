@@ -9,7 +9,6 @@ ghost use Rattle.common.specs.Row.{filled};
 ghost use Rattle.records.specs.Answer.{decodedOf};
 ghost use Rattle.records.specs.declared.SymbolData.the-variants as D;
 ghost use Rattle.compiland.specs.Compile.{compile2Row, compile2Of, compile2, compile3Row, compile3Of, compile3, version, versionWithQfe};
-use flags::CompileFlags;
 use names::ParsedPart;
 use names::Part;
 use records::CompileFlagsSymbol;
@@ -17,6 +16,7 @@ use records::CompilerVersion;
 use records::Decoded;
 use records::OptionU16;
 use records::SymbolData;
+use records::flags::CompileFlags;
 
 // Where the name stands: behind the kind and the fields.
 pub const COMPILE2_VERSION: usize = 20;
@@ -53,9 +53,9 @@ pub fn compile2(s: &[u8], version_string: Part) -> CompileFlagsSymbol
     ensures { λ r. ⌜ D.CompileFlags r ≡ filled compile2Row compile2Of (now (s .entry)) 2 «version_string» ⌝ }
 {
     CompileFlagsSymbol {
-        language: compilers::source_language(common::u8_at(s, 2)),
+        language: constants::compiler::source_language(common::u8_at(s, 2)),
         flags: CompileFlags::from_bits(common::u16_at(s, 3), false),
-        cpu_type: compilers::cpu_type(common::u16_at(s, 6)),
+        cpu_type: constants::compiler::cpu_type(common::u16_at(s, 6)),
         frontend_version: version_at(s, 8),
         backend_version: version_at(s, 14),
         version_string,
@@ -68,9 +68,9 @@ pub fn compile3(s: &[u8], version_string: Part) -> CompileFlagsSymbol
     ensures { λ r. ⌜ D.CompileFlags r ≡ filled compile3Row compile3Of (now (s .entry)) 2 «version_string» ⌝ }
 {
     CompileFlagsSymbol {
-        language: compilers::source_language(common::u8_at(s, 2)),
+        language: constants::compiler::source_language(common::u8_at(s, 2)),
         flags: CompileFlags::from_bits(common::u16_at(s, 3), true),
-        cpu_type: compilers::cpu_type(common::u16_at(s, 6)),
+        cpu_type: constants::compiler::cpu_type(common::u16_at(s, 6)),
         frontend_version: version_with_qfe_at(s, 8),
         backend_version: version_with_qfe_at(s, 16),
         version_string,

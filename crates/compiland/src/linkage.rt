@@ -9,8 +9,6 @@ ghost use Rattle.records.specs.Answer.{decodedOf};
 ghost use Rattle.records.specs.declared.SymbolData.the-variants.{Public, Export, Trampoline};
 ghost use Rattle.compiland.specs.Linkage.{publicRow, publicOf, publicSymbol, exportRow, exportOf, exportSymbol, trampolineRow, trampolineSymbolOf, trampoline};
 use common::Refusal;
-use flags::ExportSymbolFlags;
-use flags::PublicFlags;
 use names::ParsedPart;
 use names::Part;
 use records::Decoded;
@@ -19,6 +17,8 @@ use records::PublicSymbol;
 use records::SectionOffset;
 use records::SymbolData;
 use records::TrampolineSymbol;
+use records::flags::ExportSymbolFlags;
+use records::flags::PublicFlags;
 
 // Where the name stands: behind the kind and the fields.
 pub const PUBLIC_NAME: usize = 12;
@@ -100,7 +100,7 @@ pub fn parse_trampoline(s: &[u8]) -> Decoded
     ensures { λ r. ⌜ decodedOf r ≡ trampoline (now (s .entry)) 2 ⌝ }
 {
     if s.len() < TRAMPOLINE_END {
-        return Decoded::Refused(Refusal::UNEXPECTED_EOF);
+        return Decoded::Refused(Refusal::RUNS_OUT);
     }
     Decoded::Record(SymbolData::Trampoline(trampoline(s)), TRAMPOLINE_END)
 }

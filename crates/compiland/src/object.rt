@@ -76,7 +76,7 @@ pub fn parse_build_info(s: &[u8]) -> Decoded
     ensures { λ r. ⌜ decodedOf r ≡ buildInfo (now (s .entry)) 2 ⌝ }
 {
     if s.len() < BUILD_INFO_END {
-        return Decoded::Refused(Refusal::UNEXPECTED_EOF);
+        return Decoded::Refused(Refusal::RUNS_OUT);
     }
     Decoded::Record(SymbolData::BuildInfo(build_info(s)), BUILD_INFO_END)
 }

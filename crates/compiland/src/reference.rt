@@ -34,7 +34,7 @@ pub fn parse_optional_name(s: &[u8], kind: u16) -> ParsedOptionPart
     ensures { λ r. ⌜ optionalOf r ≡ behind (optionalName kind) 12 (now (s .entry)) ⌝ }
 {
     if s.len() < REFERENCE_NAME {
-        return ParsedOptionPart::Refused(Refusal::UNEXPECTED_EOF);
+        return ParsedOptionPart::Refused(Refusal::RUNS_OUT);
     }
     if kind < S_ST_MAX {
         return ParsedOptionPart::Value(OptionPart::None, REFERENCE_NAME);

@@ -8,13 +8,13 @@ ghost use Rattle.common.specs.Row.{filled};
 ghost use Rattle.records.specs.Answer.{decodedOf};
 ghost use Rattle.records.specs.declared.SymbolData.the-variants.{Local, RegisterRelative};
 ghost use Rattle.data.specs.Local.{localRow, localOf, local, registerRelativeRow, registerRelativeOf, registerRelative};
-use flags::LocalVariableFlags;
 use names::ParsedPart;
 use names::Part;
 use records::Decoded;
 use records::LocalSymbol;
 use records::RegisterRelativeSymbol;
 use records::SymbolData;
+use records::flags::LocalVariableFlags;
 
 // Where the name stands: behind the kind and the fields.
 pub const LOCAL_NAME: usize = 8;
@@ -37,7 +37,7 @@ pub fn register_relative(s: &[u8], name: Part) -> RegisterRelativeSymbol
     ensures { λ r. ⌜ RegisterRelative r ≡ filled registerRelativeRow registerRelativeOf (now (s .entry)) 2 name ⌝ }
 {
     RegisterRelativeSymbol {
-        offset: signed::i32_at(s, 2),
+        offset: common::signed::i32_at(s, 2),
         type_index: common::u32_at(s, 6),
         register: common::u16_at(s, 10),
         name,

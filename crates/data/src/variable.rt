@@ -44,7 +44,7 @@ pub fn parse_constant(s: &[u8], kind: u16) -> Decoded
     ensures { λ r. ⌜ decodedOf r ≡ constant kind (now (s .entry)) 2 ⌝ }
 {
     if s.len() < CONSTANT_VALUE {
-        return Decoded::Refused(Refusal::UNEXPECTED_EOF);
+        return Decoded::Refused(Refusal::RUNS_OUT);
     }
     match variant::parse_variant(s, CONSTANT_VALUE) {
         ParsedVariant::Value(value, at) => match names::parse_symbol_name(s, at, kind) {

@@ -117,7 +117,7 @@ pub fn scan_at(s: &[u8], at: usize) -> Scan
 {
     let n = s.len();
     if MAX_STREAM < n {
-        return scanned(0, 0, Next::Refused(Refusal::TOO_LONG));
+        return scanned(0, 0, Next::Refused(refused(5, 0)));
     }
     if at < n {
         scan_within(s, at)

@@ -16,14 +16,14 @@ use Rattle.iter.proofs.Reading.{Stepped, step-fits}
 use Rattle.chain.specs.Chain.{chainOf}
 use Rattle.chain.proofs.Laws.{pushed, stack-depth, push-stack}
 use Rattle.chain.specs.declared.Chain.{Chain}
-use Rattle.finding.specs.Finding.{Walk, seen, foundBy, refusedBy, answerOf}
-use Rattle.finding.proofs.Goings.{Going, ends, onward}
-use Rattle.hop.specs.declared.Hop.{Hop}
-use Rattle.hop.specs.declared.Hop.the-variants.{Stay, Push, Over, Found, Stop}
-use Rattle.hop.specs.declared.Land.{Land}
-use Rattle.hop.specs.declared.Land.the-variants as L
-use Rattle.hop.specs.Hop.{hopOf, landOf}
-use Rattle.hop.proofs.Hops.{Room, room, push-room, over-room, lands}
+use Rattle.chain.specs.Finding.{Walk, seen, foundBy, refusedBy, answerOf}
+use Rattle.chain.proofs.Goings.{Going, ends, onward}
+use Rattle.jump.specs.declared.hop.Hop.{Hop}
+use Rattle.jump.specs.declared.hop.Hop.the-variants.{Stay, Push, Over, Found, Stop}
+use Rattle.jump.specs.declared.hop.Land.{Land}
+use Rattle.jump.specs.declared.hop.Land.the-variants as L
+use Rattle.jump.specs.Hop.{hopOf, landOf}
+use Rattle.jump.proofs.Hops.{Room, room, push-room, over-room, lands}
 use Rattle.jump.specs.Jump.{yieldedAt, onLand, onHop, onStep, jumpBody, jumpBy, jumpFrom, jumpOf}
 use Rattle.jump.proofs.Fuel.{unroll}
 

@@ -7,14 +7,14 @@ use Rattle.iter.specs.Reading.{Rec, recAt}
 use Rattle.iter.specs.declared.Scan.{Scan}
 use Rattle.iter.specs.declared.Next.{Next}
 use Rattle.iter.specs.declared.Next.the-variants as N
-use Rattle.finding.specs.Finding.{Walk, seen, refuses, stops, findingOf}
-use Rattle.finding.specs.declared.Outcome.the-variants.{Answer}
-use Rattle.finding.specs.declared.Finding.{Finding}
-use Rattle.hop.specs.declared.Hop.{Hop}
-use Rattle.hop.specs.declared.Hop.the-variants.{Stay, Push, Over, Found, Stop}
-use Rattle.hop.specs.declared.Land.{Land}
-use Rattle.hop.specs.declared.Land.the-variants as L
-use Rattle.hop.specs.Hop.{hopOf, landOf}
+use Rattle.chain.specs.Finding.{Walk, seen, refuses, stops, findingOf}
+use Rattle.chain.specs.declared.finding.Outcome.the-variants.{Answer}
+use Rattle.chain.specs.declared.finding.Finding.{Finding}
+use Rattle.jump.specs.declared.hop.Hop.{Hop}
+use Rattle.jump.specs.declared.hop.Hop.the-variants.{Stay, Push, Over, Found, Stop}
+use Rattle.jump.specs.declared.hop.Land.{Land}
+use Rattle.jump.specs.declared.hop.Land.the-variants as L
+use Rattle.jump.specs.Hop.{hopOf, landOf}
 
 -- the record that a step from a position yields (asked only where it yields one)
 abbrev pub yielded : List ℕ → Scan → Next → Rec

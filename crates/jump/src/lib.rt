@@ -1,10 +1,12 @@
 // The jump finder: the scopes that enclose a record, where the end field of an opener jumps over a scope that closes before it.
 //
 // As walking, it reads records by steps from a start and changes its chain in place.
+pub mod hop;
+
 ghost use mathlib.Core.Path.{_≡_};
 ghost use Rattle.jump.specs.Jump.{jumpOf};
 use chain::Chain;
-use finding::Finding;
+use chain::finding::Finding;
 use hop::Hop;
 use hop::Land;
 use iter::Next;
@@ -18,8 +20,8 @@ pub fn jump(s: &[u8], start: usize, i: usize) -> Finding
     let mut read: usize = 0;
     loop {
         match iter::step(s, at) {
-            Next::End(_) => return finding::stopped(14),
-            Next::Refused(e) => return finding::refused(e),
+            Next::End(_) => return chain::finding::stopped(14),
+            Next::Refused(e) => return chain::finding::refused(e),
             Next::Record {
                 index,
                 start: from,
@@ -40,10 +42,10 @@ pub fn jump(s: &[u8], start: usize, i: usize) -> Finding
                             at = after;
                             read = read + 1;
                         }
-                        Land::Refused(e) => return finding::refused(e),
+                        Land::Refused(e) => return chain::finding::refused(e),
                     },
-                    Hop::Found => return finding::found(chain, read),
-                    Hop::Stop(number) => return finding::stopped(number),
+                    Hop::Found => return chain::finding::found(chain, read),
+                    Hop::Stop(number) => return chain::finding::stopped(number),
                 }
             }
         }

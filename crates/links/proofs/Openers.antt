@@ -17,7 +17,7 @@ use Rattle.constants.specs.declared.Class.{Class}
 use Rattle.constants.specs.declared.Class.the-variants.{Unknown, ScopeEnd, ObjName, RegisterVariable, Constant, UserDefinedType, MultiRegisterVariable, Data, Public, Procedure, ThreadStorage, CompileFlags, UsingNamespace, ProcedureReference, DataReference, AnnotationReference, Trampoline, Export, Local, BuildInfo, InlineSite, InlineSiteEnd, ProcedureEnd, Label, Block, RegisterRelative, Thunk, SeparatedCode}
 use Rattle.constants.specs.declared.Role.the-variants.{Opens}
 use Rattle.constants.proofs.Codes.{agree}
-use Rattle.kind.specs.Raw.{rawKind, nestingRoleOf}
+use Rattle.constants.specs.Raw.{rawKind, nestingRoleOf}
 use Rattle.records.specs.Field.{indexOf, orZero32}
 use Rattle.records.specs.declared.OptionPart.{OptionPart}
 use Rattle.records.specs.declared.OptionU32.the-variants as U32
@@ -26,9 +26,9 @@ use Rattle.code.specs.Procedure.{procedure}
 use Rattle.code.specs.Block.{block, separatedCode}
 use Rattle.code.specs.Inline.{plainSite, countedSite, inlineSite}
 use Rattle.code.specs.Thunk.{thunk}
-use Rattle.layouts.specs.Decode.{layout, byKind, decode}
-use Rattle.symbol_name.specs.Name.{namedBy, nameOf}
-use Rattle.symbol_name.specs.declared.Named.the-variants as N
+use Rattle.symbol.specs.Decode.{layout, byKind, decode}
+use Rattle.symbol.specs.Name.{namedBy, nameOf}
+use Rattle.symbol.specs.declared.name.Named.the-variants as N
 use Rattle.links.specs.Links.{linksIn, linksBy, linksOf}
 use Rattle.links.specs.declared.Links.the-variants.{Unread, Read as Fields}
 

@@ -5,7 +5,7 @@ use Rattle.common.specs.Reader.{Read, value, refused}
 use Rattle.records.specs.Field.{orZero32}
 use Rattle.records.specs.declared.SymbolData.{SymbolData}
 use Rattle.records.specs.declared.SymbolData.the-variants as D
-use Rattle.layouts.specs.Decode.{decode}
+use Rattle.symbol.specs.Decode.{decode}
 use Rattle.links.specs.declared.Links.{Links}
 use Rattle.links.specs.declared.Links.the-variants as L
 

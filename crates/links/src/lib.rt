@@ -1,9 +1,9 @@
 // What the check and the finders look at in an opener: its links.
 ghost use mathlib.Core.Path.{_≡_};
 ghost use Rattle.constants.specs.declared.Role.the-variants.{Opens};
-ghost use Rattle.kind.specs.Raw.{nestingRoleOf};
+ghost use Rattle.constants.specs.Raw.{nestingRoleOf};
 ghost use Rattle.links.specs.Links.{linksOf};
-use symbol_name::Named;
+use symbol::name::Named;
 
 // The links of an opener, its parent and end fields; `Unread` where decode refuses the record.
 pub enum Links {
@@ -16,7 +16,7 @@ pub fn links_of(rec: &[u8]) -> Links
     requires { ⌜ nestingRoleOf (now rec) ≡ Opens ⌝ }
     ensures { λ r. ⌜ r ≡ linksOf (now (rec .entry)) ⌝ }
 {
-    match symbol_name::name(rec) {
+    match symbol::name::name(rec) {
         Named::Refused(_) => Links::Unread,
         Named::Answer(_) => {
             let parent = common::u32_at(rec, 2);

@@ -1,11 +1,13 @@
 // The listing of a stream: for each record a line with its index, its kind and its name.
 //
 // No contract can say what is printed. How the bytes of a name are shown can be said without printing: see crate shown.
+pub mod shown;
+
 ghost use mathlib.Core.Path.{_≡_};
 ghost use lib.ListN.{length};
 use iter::Next;
 use records::OptionPart;
-use symbol_name::Named;
+use symbol::name::Named;
 
 // The longest stream that is listed.
 const MAX_LISTED: usize = 65536;
@@ -30,9 +32,9 @@ fn print_shown(name: &[u8]) {
 
 // The name of a record, `-` where it has none, `!` and the number where it is refused.
 fn print_name(record: &[u8]) {
-    match symbol_name::name(record) {
+    match symbol::name::name(record) {
         Named::Answer(has) => match has {
-            OptionPart::Some(_) => print_shown(name_bytes::name_bytes(record)),
+            OptionPart::Some(_) => print_shown(symbol::name::name_bytes(record)),
             OptionPart::None => {
                 io::write_all(1, b"-");
             }
@@ -47,7 +49,7 @@ fn print_name(record: &[u8]) {
 fn print_record(index: usize, record: &[u8]) {
     io::print_decimal(1, index as u64);
     io::write_all(1, b" ");
-    io::print_hex(1, kind::raw_kind(record) as u64, 4);
+    io::print_hex(1, constants::kind::raw_kind(record) as u64, 4);
     io::write_all(1, b" ");
     print_name(record);
     io::write_all(1, b"\n");

@@ -4,10 +4,10 @@ use mathlib.Core.Path.{_≡_, refl, _∙_, subst}
 use mathlib.Core.List.{List, [], _∷_}
 use Prim.Native.Nat.{ℕ}
 use Rattle.constants.specs.Kind.{startsScope, endsScope}
-use Rattle.field_words.specs.Fields.{truth}
-use Rattle.reply.specs.Written.{written}
+use Rattle.record_words.specs.Fields.{truth}
+use Rattle.words.specs.Written.{written}
 use Rattle.reply.specs.Reply.{Reply, Replied}
-use Rattle.replies.specs.Replies.{kindReply}
+use Rattle.reply.specs.Replies.{kindReply}
 
 -- the reply to an answer is the reply to what the answer is equal to
 pub replied-as : {A : Type 0} (reply : A → Reply) {x y : A} {returned : ℕ} {before after : List ℕ} →

@@ -2,17 +2,17 @@
 //
 // A call that answers returns 0 and writes its words to those lent to it, from place 0 on; one that refuses returns the number of the
 // refusal and writes two, position and detail. Every other word stays as it was. No call keeps a reference or allocates.
-ghost use Rattle.kind.specs.Raw.{rawKind};
-ghost use Rattle.layouts.specs.Decode.{decode};
-ghost use Rattle.symbol_name.specs.Name.{nameOf};
-ghost use Rattle.register_entry.specs.Entry.{registerEntry};
+ghost use Rattle.constants.specs.Raw.{rawKind};
+ghost use Rattle.symbol.specs.Decode.{decode};
+ghost use Rattle.symbol.specs.Name.{nameOf};
+ghost use Rattle.symbol.specs.Entry.{registerEntry};
 ghost use Rattle.iter.specs.Step.{stepOf};
 ghost use Rattle.check_nesting.specs.Check.{checkOf};
 ghost use Rattle.walk.specs.Walk.{walkOf};
 ghost use Rattle.jump.specs.Jump.{jumpOf};
 ghost use Rattle.climb.specs.Climb.{climbOf};
 ghost use Rattle.reply.specs.Reply.{Replied};
-ghost use Rattle.replies.specs.Replies.{stepReply, kindReply, decodeReply, nameReply, entryReply, checkReply, findingReply, ascentReply};
+ghost use Rattle.reply.specs.Replies.{stepReply, kindReply, decodeReply, nameReply, entryReply, checkReply, findingReply, ascentReply};
 use records::Decoded;
 
 // One step from a position. End: 0 and the position. A record: 1, its index, where its bytes start, how many they are, and the next
@@ -21,7 +21,7 @@ use records::Decoded;
 pub extern "C" fn mitrelilac_step(stream: &[u8], position: usize, out: &mut [u64; 5]) -> u32
     ensures { λ r. ⌜ Replied (stepReply (stepOf (now (stream .entry)) position)) r (now (out .entry)) (now (out .exit)) ⌝ }
 {
-    replies::reply_step(iter::step(stream, position), out)
+    reply::operation::reply_step(iter::step(stream, position), out)
 }
 
 // The kind of a record, 1 if it opens a scope, and 1 if it closes one.
@@ -29,10 +29,10 @@ pub extern "C" fn mitrelilac_step(stream: &[u8], position: usize, out: &mut [u64
 pub extern "C" fn mitrelilac_kind(rec: &[u8], out: &mut [u64; 3]) -> u32
     ensures { λ r. ⌜ Replied (kindReply (rawKind (now (rec .entry)))) r (now (out .entry)) (now (out .exit)) ⌝ }
 {
-    let kind = kind::raw_kind(rec);
-    let opener = words::truth(kind::starts_scope(rec));
-    let closer = words::truth(kind::ends_scope(rec));
-    reply::put3(out, kind as u64, opener, closer);
+    let kind = constants::kind::raw_kind(rec);
+    let opener = words::truth(constants::kind::starts_scope(rec));
+    let closer = words::truth(constants::kind::ends_scope(rec));
+    words::put::put3(out, kind as u64, opener, closer);
     0
 }
 
@@ -55,7 +55,7 @@ pub extern "C" fn mitrelilac_decode(rec: &[u8], out: &mut [u64; 24]) -> u32
 pub extern "C" fn mitrelilac_name(rec: &[u8], out: &mut [u64; 3]) -> u32
     ensures { λ r. ⌜ Replied (nameReply (nameOf (now (rec .entry)))) r (now (out .entry)) (now (out .exit)) ⌝ }
 {
-    replies::reply_name(symbol_name::name(rec), out)
+    reply::operation::reply_name(symbol::name::name(rec), out)
 }
 
 // The entry k of a register list: the register, and where its name starts and how long it is.
@@ -63,7 +63,7 @@ pub extern "C" fn mitrelilac_name(rec: &[u8], out: &mut [u64; 3]) -> u32
 pub extern "C" fn mitrelilac_register_entry(rec: &[u8], k: usize, out: &mut [u64; 3]) -> u32
     ensures { λ r. ⌜ Replied (entryReply (registerEntry (now (rec .entry)) k)) r (now (out .entry)) (now (out .exit)) ⌝ }
 {
-    replies::reply_entry(register_entry::register_entry(rec, k), out)
+    reply::operation::reply_entry(symbol::register_entry::register_entry(rec, k), out)
 }
 
 // The nesting check. The records read and their bytes, the records passed over and theirs, openers, deepest nesting.
@@ -71,7 +71,7 @@ pub extern "C" fn mitrelilac_register_entry(rec: &[u8], k: usize, out: &mut [u64
 pub extern "C" fn mitrelilac_check(stream: &[u8], start: usize, out: &mut [u64; 6]) -> u32
     ensures { λ r. ⌜ Replied (checkReply (checkOf (now (stream .entry)) start)) r (now (out .entry)) (now (out .exit)) ⌝ }
 {
-    replies::reply_check(check_nesting::check(stream, start), out)
+    reply::operation::reply_check(check_nesting::check(stream, start), out)
 }
 
 // The scopes that enclose the record at i, by steps from start: the number of records read, how many scopes there are, and 64 places

@@ -42,13 +42,13 @@ pub fn parse_cstring(s: &[u8], at: usize) -> ParsedPart
     ensures { λ r. ⌜ partOf r ≡ cstring (now (s .entry)) at ⌝ }
 {
     if s.len() <= at {
-        return ParsedPart::Refused(Refusal::UNEXPECTED_EOF);
+        return ParsedPart::Refused(Refusal::RUNS_OUT);
     }
     let n = before_zero(s, at);
     if n < s.len() - at {
         ParsedPart::Value(Part { start: at, len: n }, at + n + 1)
     } else {
-        ParsedPart::Refused(Refusal::UNEXPECTED_EOF)
+        ParsedPart::Refused(Refusal::RUNS_OUT)
     }
 }
 
@@ -59,7 +59,7 @@ fn take(s: &[u8], at: usize, n: usize) -> ParsedPart
     if common::has_room(s, at, n) {
         ParsedPart::Value(Part { start: at, len: n }, at + n)
     } else {
-        ParsedPart::Refused(Refusal::UNEXPECTED_EOF)
+        ParsedPart::Refused(Refusal::RUNS_OUT)
     }
 }
 
@@ -69,7 +69,7 @@ pub fn parse_u8_pascal_string(s: &[u8], at: usize) -> ParsedPart
     if at < s.len() {
         take(s, at + 1, common::u8_at(s, at) as usize)
     } else {
-        ParsedPart::Refused(Refusal::UNEXPECTED_EOF)
+        ParsedPart::Refused(Refusal::RUNS_OUT)
     }
 }
 
@@ -88,7 +88,7 @@ pub fn name_behind(s: &[u8], at: usize, kind: u16) -> ParsedPart
     ensures { λ r. ⌜ partOf r ≡ behind (symbolName kind) at (now (s .entry)) ⌝ }
 {
     if s.len() < at {
-        return ParsedPart::Refused(Refusal::UNEXPECTED_EOF);
+        return ParsedPart::Refused(Refusal::RUNS_OUT);
     }
     parse_symbol_name(s, at, kind)
 }

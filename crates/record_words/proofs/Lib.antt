@@ -1,1 +1,2 @@
 mod Stores
+pub mod Signed

@@ -9,9 +9,9 @@ use lib.ListN.{length, take, drop}
 use lib.Seq.{sets, sets-eq, length-sets, length-take-le, drop-at}
 use Rattle.records.specs.declared.SymbolData.{SymbolData}
 use Rattle.records.specs.declared.SymbolData.the-variants as D
-use Rattle.reply.specs.Written.{written}
-use Rattle.field_words.specs.Record.{classNumber, fields, recordWords}
-use Rattle.field_words.specs.Stored.{Stored}
+use Rattle.words.specs.Written.{written}
+use Rattle.record_words.specs.Record.{classNumber, fields, recordWords}
+use Rattle.record_words.specs.Stored.{Stored}
 
 -- stores from place 2 on, and then two words before them
 two-before : (a b : ℕ) (words before : List ℕ) → 2 + length words ≤ length before →

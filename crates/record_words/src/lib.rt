@@ -1,8 +1,13 @@
 // A decoded record as words, in places that the caller lends: the number of its class, the bytes consumed, and its fields.
+pub mod code;
+pub mod compiland;
+pub mod data;
+pub mod field;
+
 ghost use mathlib.Core.Path.{_≡_};
-ghost use Rattle.reply.specs.Written.{written};
-ghost use Rattle.field_words.specs.Record.{recordWords};
-ghost use Rattle.field_words.specs.Stored.{Stored};
+ghost use Rattle.words.specs.Written.{written};
+ghost use Rattle.record_words.specs.Record.{recordWords};
+ghost use Rattle.record_words.specs.Stored.{Stored};
 use records::SymbolData;
 
 // Stores the fields from place 2 on and answers the number of the class.
@@ -11,32 +16,32 @@ fn put_fields(d: SymbolData, out: &mut [u64; 24]) -> u64
 {
     match d {
         SymbolData::ScopeEnd => 1,
-        SymbolData::ObjName(x) => module_words::obj_name(x, out),
-        SymbolData::RegisterVariable(x) => data_words::register_variable(x, out),
-        SymbolData::Constant(x) => data_words::constant(x, out),
-        SymbolData::UserDefinedType(x) => data_words::user_defined_type(x, out),
-        SymbolData::MultiRegisterVariable(x) => data_words::multi_register_variable(x, out),
-        SymbolData::Data(x) => data_words::data_item(x, out),
-        SymbolData::Public(x) => module_words::public_symbol(x, out),
-        SymbolData::Procedure(x) => code_words::procedure(x, out),
-        SymbolData::ThreadStorage(x) => data_words::thread_storage(x, out),
-        SymbolData::CompileFlags(x) => module_words::compile_flags(x, out),
-        SymbolData::UsingNamespace(x) => module_words::using_namespace(x, out),
-        SymbolData::ProcedureReference(x) => module_words::procedure_reference(x, out),
-        SymbolData::DataReference(x) => module_words::data_reference(x, out),
-        SymbolData::AnnotationReference(x) => module_words::annotation_reference(x, out),
-        SymbolData::Trampoline(x) => code_words::trampoline(x, out),
-        SymbolData::Export(x) => module_words::export_symbol(x, out),
-        SymbolData::Local(x) => data_words::local(x, out),
-        SymbolData::BuildInfo(x) => module_words::build_info(x, out),
-        SymbolData::InlineSite(x) => code_words::inline_site(x, out),
+        SymbolData::ObjName(x) => compiland::obj_name(x, out),
+        SymbolData::RegisterVariable(x) => data::register_variable(x, out),
+        SymbolData::Constant(x) => data::constant(x, out),
+        SymbolData::UserDefinedType(x) => data::user_defined_type(x, out),
+        SymbolData::MultiRegisterVariable(x) => data::multi_register_variable(x, out),
+        SymbolData::Data(x) => data::data_item(x, out),
+        SymbolData::Public(x) => compiland::public_symbol(x, out),
+        SymbolData::Procedure(x) => code::procedure(x, out),
+        SymbolData::ThreadStorage(x) => data::thread_storage(x, out),
+        SymbolData::CompileFlags(x) => compiland::compile_flags(x, out),
+        SymbolData::UsingNamespace(x) => compiland::using_namespace(x, out),
+        SymbolData::ProcedureReference(x) => compiland::procedure_reference(x, out),
+        SymbolData::DataReference(x) => compiland::data_reference(x, out),
+        SymbolData::AnnotationReference(x) => compiland::annotation_reference(x, out),
+        SymbolData::Trampoline(x) => code::trampoline(x, out),
+        SymbolData::Export(x) => compiland::export_symbol(x, out),
+        SymbolData::Local(x) => data::local(x, out),
+        SymbolData::BuildInfo(x) => compiland::build_info(x, out),
+        SymbolData::InlineSite(x) => code::inline_site(x, out),
         SymbolData::InlineSiteEnd => 21,
         SymbolData::ProcedureEnd => 22,
-        SymbolData::Label(x) => code_words::label(x, out),
-        SymbolData::Block(x) => code_words::block(x, out),
-        SymbolData::RegisterRelative(x) => data_words::register_relative(x, out),
-        SymbolData::Thunk(x) => code_words::thunk(x, out),
-        SymbolData::SeparatedCode(x) => code_words::separated_code(x, out),
+        SymbolData::Label(x) => code::label(x, out),
+        SymbolData::Block(x) => code::block(x, out),
+        SymbolData::RegisterRelative(x) => data::register_relative(x, out),
+        SymbolData::Thunk(x) => code::thunk(x, out),
+        SymbolData::SeparatedCode(x) => code::separated_code(x, out),
     }
 }
 
@@ -45,5 +50,5 @@ pub fn write_record(d: SymbolData, consumed: usize, out: &mut [u64; 24])
     ensures { λ _. ⌜ now (out .exit) ≡ written (recordWords d consumed) (now (out .entry)) ⌝ }
 {
     let class = put_fields(d, out);
-    reply::put2(out, class, consumed as u64);
+    words::put::put2(out, class, consumed as u64);
 }

@@ -11,7 +11,7 @@ use Rattle.common.specs.Reader.{Read, value, refused, runsOut, _>>=_, uint}
 use Rattle.common.specs.declared.Refusal.{Refusal}
 use Rattle.common.proofs.Rows.{leading, leading-reads, leading-short}
 use Rattle.records.specs.declared.SymbolData.{SymbolData}
-use Rattle.entries.specs.Entries.{skip}
+use Rattle.registers.specs.Entries.{skip}
 use Rattle.registers.specs.Registers.{longList, registerCount, multiRegisterOf, registerList, multiRegisterVariable}
 
 -- the list, behind its count

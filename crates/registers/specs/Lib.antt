@@ -1,1 +1,3 @@
 pub mod Registers
+pub mod EntryAnswer
+pub mod Entries

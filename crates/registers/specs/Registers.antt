@@ -5,7 +5,7 @@ use lib.Dec.{eqb}
 use Rattle.common.specs.Reader.{value, Reader, _>>=_, done, u8, u16, u32}
 use Rattle.records.specs.declared.SymbolData.{SymbolData}
 use Rattle.records.specs.declared.SymbolData.the-variants.{MultiRegisterVariable}
-use Rattle.entries.specs.Entries.{skip}
+use Rattle.registers.specs.Entries.{skip}
 
 -- S_MANYREG2, S_MANYREG2_ST: MANYREGSYM2
 abbrev pub longList : ℕ → Bool

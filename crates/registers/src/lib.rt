@@ -1,13 +1,15 @@
 // Register lists: a variable that lies in several registers.
 //
 // pdb collects the entries in a Vec. Here the record keeps their count and where the first one stands; see crate entries.
+pub mod entry;
+
 ghost use mathlib.Core.Path.{_≡_};
 ghost use Rattle.records.specs.Answer.{decodedOf};
 ghost use Rattle.registers.specs.Registers.{registerList, multiRegisterVariable};
 use common::Refusal;
 use constants::S_MANYREG2;
 use constants::S_MANYREG2_ST;
-use entries::Skipped;
+use entry::Skipped;
 use records::Decoded;
 use records::MultiRegisterVariableSymbol;
 use records::SymbolData;
@@ -21,7 +23,7 @@ pub const SHORT_LIST: usize = 7;
 fn register_list(s: &[u8], first: usize, kind: u16, type_index: u32, count: u16) -> Decoded
     ensures { λ r. ⌜ decodedOf r ≡ registerList kind «type_index» count (now (s .entry)) first ⌝ }
 {
-    match entries::skip_entries(s, first, kind, count) {
+    match entry::skip_entries(s, first, kind, count) {
         Skipped::At(next) => {
             let data = MultiRegisterVariableSymbol {
                 type_index,
@@ -39,7 +41,7 @@ pub fn parse_multi_register_variable(s: &[u8], kind: u16) -> Decoded
 {
     if (kind == S_MANYREG2) | (kind == S_MANYREG2_ST) {
         if s.len() < LONG_LIST {
-            return Decoded::Refused(Refusal::UNEXPECTED_EOF);
+            return Decoded::Refused(Refusal::RUNS_OUT);
         }
         return register_list(
             s,
@@ -50,7 +52,7 @@ pub fn parse_multi_register_variable(s: &[u8], kind: u16) -> Decoded
         );
     }
     if s.len() < SHORT_LIST {
-        return Decoded::Refused(Refusal::UNEXPECTED_EOF);
+        return Decoded::Refused(Refusal::RUNS_OUT);
     }
     register_list(
         s,

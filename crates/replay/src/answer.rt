@@ -1,7 +1,7 @@
 // Our answers. Records, streams and their scopes are asked through the functions that C calls.
-use replay_parts::FREE;
-use replay_parts::Words;
-use replay_parts::words_of;
+use super::parts::FREE;
+use super::parts::Words;
+use super::parts::words_of;
 
 // The words of a call that was lent so many. (A callee that takes the array knows its length.)
 fn words3(number: u32, out: &[u64; 3]) -> Words {
@@ -73,6 +73,6 @@ pub fn answer(op: u64, arg: u64, start: u64, s: &[u8]) -> Words {
         34..=36 => about_record(op, s, at),
         40 => check(s, from),
         41..=43 => scopes(op, s, from, at),
-        _ => replay_parts::answer(op, arg, s),
+        _ => super::parts::answer(op, arg, s),
     }
 }

@@ -1,7 +1,7 @@
 // The list: blocks of cases, filled up with zeros, each case an operation, its argument and start, the bytes it is asked about and the
 // oracle's answer in words.
-use replay_parts::FREE;
-use replay_parts::Words;
+use super::parts::FREE;
+use super::parts::Words;
 
 // How many cases were replayed and how many of our answers differ; the first that does, counted from 1; whether the list is over.
 pub struct Tally {

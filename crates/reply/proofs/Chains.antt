@@ -7,7 +7,7 @@ use native.Mathlib.Omega.{arith}
 use native.Mathlib.Numerals.{add-one}
 use lib.ListN.{length, drop, getD, set}
 use lib.Seq.{paste, paste-zero, paste-suc, length-paste, take-all, drop-drop}
-use Rattle.reply.specs.Written.{written}
+use Rattle.words.specs.Written.{written}
 
 -- The loop's invariant: k of the places are stored, and the other words are as they were in `from`.
 pub record Storing (from at out : List ℕ) (k : ℕ) : Type 0 where

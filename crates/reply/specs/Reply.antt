@@ -4,9 +4,9 @@ use mathlib.Core.Path.{_≡_}
 use mathlib.Core.List.{List, [], _∷_}
 use Rattle.common.specs.declared.Refusal.{Refusal}
 use Rattle.chain.specs.declared.Chain.{Chain}
-use Rattle.finding.specs.declared.Outcome.{Outcome}
-use Rattle.finding.specs.declared.Outcome.the-variants.{Answer, Refused}
-use Rattle.reply.specs.Written.{written}
+use Rattle.chain.specs.declared.finding.Outcome.{Outcome}
+use Rattle.chain.specs.declared.finding.Outcome.the-variants.{Answer, Refused}
+use Rattle.words.specs.Written.{written}
 
 pub record Reply : Type 0 where
   pub number : ℕ

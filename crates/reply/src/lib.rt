@@ -1,60 +1,22 @@
 // A reply to a caller that lends words: the number that a call returns, and the words that it writes from place 0 on. The places behind
 // them stay as they were.
+pub mod operation;
+
 ghost use mathlib.Core.Path.{_≡_};
 ghost use mathlib.Core.List.{[], _∷_};
 ghost use Prim.Native.Nat.{_≤_};
 ghost use lib.ListN.{length};
 ghost use Rattle.reply.specs.Reply.{Replied, refuses, chainReply};
-ghost use Rattle.reply.specs.Written.{written};
+ghost use Rattle.words.specs.Written.{written};
 use chain::Chain;
+use chain::finding::Outcome;
 use common::Refusal;
-use finding::Outcome;
-
-pub fn put2(out: &mut [u64], a: u64, b: u64)
-    requires { ⌜ 2 ≤ length (now out) ⌝ }
-    ensures { λ _. ⌜ now (out .exit) ≡ written (a ∷ b ∷ []) (now (out .entry)) ⌝ }
-{
-    out[0] = a;
-    out[1] = b;
-}
-
-pub fn put3(out: &mut [u64], a: u64, b: u64, c: u64)
-    requires { ⌜ 3 ≤ length (now out) ⌝ }
-    ensures { λ _. ⌜ now (out .exit) ≡ written (a ∷ b ∷ c ∷ []) (now (out .entry)) ⌝ }
-{
-    out[0] = a;
-    out[1] = b;
-    out[2] = c;
-}
-
-pub fn put5(out: &mut [u64], a: u64, b: u64, c: u64, d: u64, e: u64)
-    requires { ⌜ 5 ≤ length (now out) ⌝ }
-    ensures { λ _. ⌜ now (out .exit) ≡ written (a ∷ b ∷ c ∷ d ∷ e ∷ []) (now (out .entry)) ⌝ }
-{
-    out[0] = a;
-    out[1] = b;
-    out[2] = c;
-    out[3] = d;
-    out[4] = e;
-}
-
-pub fn put6(out: &mut [u64], a: u64, b: u64, c: u64, d: u64, e: u64, f: u64)
-    requires { ⌜ 6 ≤ length (now out) ⌝ }
-    ensures { λ _. ⌜ now (out .exit) ≡ written (a ∷ b ∷ c ∷ d ∷ e ∷ f ∷ []) (now (out .entry)) ⌝ }
-{
-    out[0] = a;
-    out[1] = b;
-    out[2] = c;
-    out[3] = d;
-    out[4] = e;
-    out[5] = f;
-}
 
 pub fn refuse(out: &mut [u64], e: Refusal) -> u32
     requires { ⌜ 2 ≤ length (now out) ⌝ }
     ensures { λ r. ⌜ Replied (refuses e) r (now (out .entry)) (now (out .exit)) ⌝ }
 {
-    put2(out, e.position as u64, e.detail);
+    words::put::put2(out, e.position as u64, e.detail);
     e.number as u32
 }
 
@@ -64,7 +26,7 @@ fn put_chain(out: &mut [u64], count: usize, depth: usize, at: &[u32])
     requires { ⌜ 66 ≤ length (now out) ⌝ }
     ensures { λ _. ⌜ now (out .exit) ≡ written (count ∷ depth ∷ now (at .entry)) (now (out .entry)) ⌝ }
 {
-    put2(out, count as u64, depth as u64);
+    words::put::put2(out, count as u64, depth as u64);
     let mut k: usize = 0;
     while k < 64 {
         out[2 + k] = at[k] as u64;

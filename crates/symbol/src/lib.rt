@@ -1,4 +1,7 @@
 // A record decoded to the typed record of its kind (pdb's Symbol::parse).
+pub mod name;
+pub mod register_entry;
+
 ghost use mathlib.Core.Path.{_≡_};
 ghost use Prim.Native.Nat.{_≤_};
 ghost use lib.ListN.{length};
@@ -6,20 +9,19 @@ ghost use Rattle.common.specs.Reader.{refused, refusal};
 ghost use Rattle.constants.specs.Kind.{classOf};
 ghost use Rattle.records.specs.Answer.{decodedOf};
 ghost use Rattle.compiland.specs.Compile.{compile};
-ghost use Rattle.layouts.specs.Decode.{layout, decode};
+ghost use Rattle.symbol.specs.Decode.{layout, decode};
 use common::Refusal;
 use constants::Class;
 use constants::S_COMPILE3;
 use records::Decoded;
 
+// The longest record that is decoded.
+pub const MAX_RECORD: usize = 0xffff;
+
 fn unimplemented(kind: u16) -> Decoded
     ensures { λ r. ⌜ decodedOf r ≡ refused (refusal 3 0 kind) ⌝ }
 {
-    Decoded::Refused(Refusal {
-        number: 3,
-        position: 0,
-        detail: kind as u64,
-    })
+    Decoded::Refused(Refusal::of(Refusal::UNIMPLEMENTED_KIND, kind))
 }
 
 // S_COMPILE3 is a layout of its own.
@@ -79,11 +81,11 @@ fn parse_by_kind(s: &[u8], kind: u16) -> Decoded
 pub fn decode(s: &[u8]) -> Decoded
     ensures { λ r. ⌜ decodedOf r ≡ decode (now (s .entry)) ⌝ }
 {
-    if layouts::MAX_RECORD < s.len() {
-        return Decoded::Refused(Refusal::TOO_LONG);
+    if MAX_RECORD < s.len() {
+        return Decoded::Refused(Refusal::at(Refusal::TOO_LONG, 0));
     }
     if s.len() < 2 {
-        return Decoded::Refused(Refusal::UNEXPECTED_EOF);
+        return Decoded::Refused(Refusal::RUNS_OUT);
     }
     parse_by_kind(s, common::u16_at(s, 0))
 }

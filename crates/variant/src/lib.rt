@@ -3,13 +3,13 @@ ghost use mathlib.Core.Path.{_≡_};
 ghost use Rattle.variant.specs.Numeric.{leaf, numeric};
 ghost use Rattle.variant.specs.Answer.{variantOf};
 use common::Refusal;
-use signed::ParsedI16;
-use signed::ParsedI32;
-use signed::ParsedI64;
-use unsigned::ParsedU8;
-use unsigned::ParsedU16;
-use unsigned::ParsedU32;
-use unsigned::ParsedU64;
+use common::signed::ParsedI16;
+use common::signed::ParsedI32;
+use common::signed::ParsedI64;
+use common::unsigned::ParsedU8;
+use common::unsigned::ParsedU16;
+use common::unsigned::ParsedU32;
+use common::unsigned::ParsedU64;
 
 pub const LF_NUMERIC: u16 = 0x8000;
 
@@ -48,46 +48,42 @@ fn parse_leaf(s: &[u8], at: usize, prefix: u16) -> ParsedVariant
     ensures { λ r. ⌜ variantOf r ≡ leaf prefix (now (s .entry)) at ⌝ }
 {
     match prefix {
-        LF_CHAR => match unsigned::parse_u8(s, at) {
+        LF_CHAR => match common::unsigned::parse_u8(s, at) {
             ParsedU8::Value(x, next) => ParsedVariant::Value(Variant::U8(x), next),
             ParsedU8::Refused(e) => ParsedVariant::Refused(e),
         },
-        LF_SHORT => match signed::parse_i16(s, at) {
+        LF_SHORT => match common::signed::parse_i16(s, at) {
             ParsedI16::Value(x, next) => ParsedVariant::Value(Variant::I16(x), next),
             ParsedI16::Refused(e) => ParsedVariant::Refused(e),
         },
-        LF_USHORT => match unsigned::parse_u16(s, at) {
+        LF_USHORT => match common::unsigned::parse_u16(s, at) {
             ParsedU16::Value(x, next) => ParsedVariant::Value(Variant::U16(x), next),
             ParsedU16::Refused(e) => ParsedVariant::Refused(e),
         },
-        LF_LONG => match signed::parse_i32(s, at) {
+        LF_LONG => match common::signed::parse_i32(s, at) {
             ParsedI32::Value(x, next) => ParsedVariant::Value(Variant::I32(x), next),
             ParsedI32::Refused(e) => ParsedVariant::Refused(e),
         },
-        LF_ULONG => match unsigned::parse_u32(s, at) {
+        LF_ULONG => match common::unsigned::parse_u32(s, at) {
             ParsedU32::Value(x, next) => ParsedVariant::Value(Variant::U32(x), next),
             ParsedU32::Refused(e) => ParsedVariant::Refused(e),
         },
-        LF_QUADWORD => match signed::parse_i64(s, at) {
+        LF_QUADWORD => match common::signed::parse_i64(s, at) {
             ParsedI64::Value(x, next) => ParsedVariant::Value(Variant::I64(x), next),
             ParsedI64::Refused(e) => ParsedVariant::Refused(e),
         },
-        LF_UQUADWORD => match unsigned::parse_u64(s, at) {
+        LF_UQUADWORD => match common::unsigned::parse_u64(s, at) {
             ParsedU64::Value(x, next) => ParsedVariant::Value(Variant::U64(x), next),
             ParsedU64::Refused(e) => ParsedVariant::Refused(e),
         },
-        _ => ParsedVariant::Refused(Refusal {
-            number: 4,
-            position: 0,
-            detail: prefix as u64,
-        }),
+        _ => ParsedVariant::Refused(Refusal::of(Refusal::UNEXPECTED_NUMERIC_PREFIX, prefix)),
     }
 }
 
 pub fn parse_variant(s: &[u8], at: usize) -> ParsedVariant
     ensures { λ r. ⌜ variantOf r ≡ numeric (now (s .entry)) at ⌝ }
 {
-    match unsigned::parse_u16(s, at) {
+    match common::unsigned::parse_u16(s, at) {
         ParsedU16::Value(prefix, next) => {
             if prefix < LF_NUMERIC {
                 ParsedVariant::Value(Variant::U16(prefix), next)

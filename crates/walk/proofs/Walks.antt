@@ -21,12 +21,12 @@ use Rattle.iter.proofs.Reading.{Stepped, step-fits, read-by}
 use Rattle.chain.specs.Chain.{chainOf}
 use Rattle.chain.specs.declared.Chain.{Chain}
 use Rattle.chain.proofs.Laws.{pushed, popped, stack-depth, push-stack, pop-stack, length-tail}
-use Rattle.kind.specs.Raw.{nestingRoleOf}
+use Rattle.constants.specs.Raw.{nestingRoleOf}
 use Rattle.walk.specs.declared.Turn.{Turn}
 use Rattle.walk.specs.declared.Turn.the-variants.{Stay, Push, Pop, Found, Stop}
-use Rattle.finding.specs.Finding.{Walk, seen, refuses, stops, foundBy, refusedBy, answerOf}
+use Rattle.chain.specs.Finding.{Walk, seen, refuses, stops, foundBy, refusedBy, answerOf}
 use Rattle.walk.specs.Walk.{turnOfRole, turnOf, onTurn, walkLast, walkOn, walkFrom, walkOf}
-use Rattle.finding.proofs.Goings.{Going, ends, onward}
+use Rattle.chain.proofs.Goings.{Going, ends, onward}
 
 -- an opener is pushed only below 64, and a closer pops only where one is open
 abbrev Room : ℕ → Turn → Type 0

@@ -9,10 +9,10 @@ use Rattle.constants.specs.declared.Role.the-variants.{Neither, Opens, Closes}
 use Rattle.iter.specs.Reading.{Rec, Reading, readOf}
 use Rattle.iter.specs.declared.Next.{Next}
 use Rattle.iter.specs.declared.Next.the-variants as N
-use Rattle.kind.specs.Raw.{nestingRoleOf}
-use Rattle.finding.specs.Finding.{Walk, seen, refuses, stops, findingOf}
-use Rattle.finding.specs.declared.Outcome.the-variants.{Answer}
-use Rattle.finding.specs.declared.Finding.{Finding}
+use Rattle.constants.specs.Raw.{nestingRoleOf}
+use Rattle.chain.specs.Finding.{Walk, seen, refuses, stops, findingOf}
+use Rattle.chain.specs.declared.finding.Outcome.the-variants.{Answer}
+use Rattle.chain.specs.declared.finding.Finding.{Finding}
 use Rattle.walk.specs.declared.Turn.{Turn}
 use Rattle.walk.specs.declared.Turn.the-variants.{Stay, Push, Pop, Found, Stop}
 

@@ -4,8 +4,8 @@
 ghost use mathlib.Core.Path.{_≡_};
 ghost use Rattle.walk.specs.Walk.{turnOf, walkOf};
 use chain::Chain;
+use chain::finding::Finding;
 use constants::Role;
-use finding::Finding;
 use iter::Next;
 
 // What the walk does at a record that it reads.
@@ -27,7 +27,7 @@ fn turn_at(rec: &[u8], index: usize, i: usize, depth: usize) -> Turn
     if i < index {
         return Turn::Stop(14);
     }
-    match kind::nesting_role(rec) {
+    match constants::kind::nesting_role(rec) {
         Role::Opens => {
             if 64 <= depth {
                 return Turn::Stop(9);
@@ -53,8 +53,8 @@ pub fn walk(s: &[u8], start: usize, i: usize) -> Finding
     let mut read: usize = 0;
     loop {
         match iter::step(s, at) {
-            Next::End(_) => return finding::stopped(14),
-            Next::Refused(e) => return finding::refused(e),
+            Next::End(_) => return chain::finding::stopped(14),
+            Next::Refused(e) => return chain::finding::refused(e),
             Next::Record {
                 index,
                 start: from,
@@ -74,8 +74,8 @@ pub fn walk(s: &[u8], start: usize, i: usize) -> Finding
                         chain.at[depth - 1] = 0;
                         chain.depth = depth - 1;
                     }
-                    Turn::Found => return finding::found(chain, read),
-                    Turn::Stop(number) => return finding::stopped(number),
+                    Turn::Found => return chain::finding::found(chain, read),
+                    Turn::Stop(number) => return chain::finding::stopped(number),
                 }
             }
         }

@@ -1,4 +1,6 @@
 // Values as 64-bit words, the form in which answers leave the library.
+pub mod put;
+
 ghost use mathlib.Core.Path.{_≡_};
 ghost use mathlib.Core.Bool.{cond};
 ghost use Rattle.common.specs.Bytes.{signed};

@@ -14,18 +14,6 @@ use Rattle.agreement.proofs.four_answers.Tie as tie
 both : (s : List ℕ) (start i : ℕ) (a : Answers) → a ≡ answersOf s start i → (a ≡ answersOf s start i) × Condition3 s start i a
 both s start i a e = (e, subst (λ (x : Answers). Condition3 s start i x) (sym e) (condition3 s start i))
 
-check-requires : tie.Need-check-requires
-check-requires c κs = search needs
-
-walk-requires : tie.Need-walk-requires
-walk-requires c κs = search needs
-
-jump-requires : tie.Need-jump-requires
-jump-requires c κs = search needs
-
-climb-requires : tie.Need-climb-requires
-climb-requires c κs = search needs
-
 returns : tie.Need-returns
 returns c =
     both _ _ _ _
@@ -38,4 +26,4 @@ returns c =
 
 pub four-answers-spec : {M : Type 1} → statement M
 four-answers-spec =
-    tie.close (tie.spec check-requires walk-requires jump-requires climb-requires returns)
+    tie.close (tie.spec (λ c κs. search needs) (λ c κs. search needs) (λ c κs. search needs) (λ c κs. search needs) returns)

@@ -48,23 +48,8 @@ popRoom c = pop-room (recordAt (c .before .before .before .before .before .befor
 both : (s : List ℕ) (start : ℕ) (r : Checked) → r ≡ checkOf s start → (r ≡ checkOf s start) × addsUp r s start
 both s start r e = (e, sums s start r e)
 
-new-requires : tie.Need-new-requires Inv-loop μ-loop
-new-requires c κs = search needs
-
-no-counts-requires : tie.Need-no-counts-requires Inv-loop μ-loop
-no-counts-requires c κs = search needs
-
 loop-holds : tie.Need-loop-holds Inv-loop μ-loop
 loop-holds c = rw (c .no-counts .ensures) (checking-first _ _ _ _ (c .before .new .ensures) refl)
-
-scan-at-requires : tie.Need-scan-at-requires Inv-loop μ-loop
-scan-at-requires c κs = search needs
-
-enum-told : tie.Need-enum-told Inv-loop μ-loop
-enum-told c = search needs
-
-innermost-requires : tie.Need-innermost-requires Inv-loop μ-loop
-innermost-requires c κs = search needs
 
 at-end-requires : tie.Need-at-end-requires Inv-loop μ-loop
 at-end-requires c κs = omega (arith, turnAt (c .before .before .before .before .before) .inv, scanned (turnAt (c .before .before .before .before .before)))
@@ -72,14 +57,8 @@ at-end-requires c κs = omega (arith, turnAt (c .before .before .before .before 
 returns : tie.Need-returns Inv-loop μ-loop
 returns c = both _ _ _ (c .at-end .ensures ∙ rw (c .before .innermost .ensures) (at-end (turnAt (c .before .before .before .before .before .before)) (c .before .before .before .before .enum-told .given .1)))
 
-enum-known-found : tie.Need-enum-known-found Inv-loop μ-loop
-enum-known-found c = search needs
-
 returns-2 : tie.Need-returns-2 Inv-loop μ-loop
 returns-2 c = both _ _ _ (at-refused (turnAt (c .before .before .before)) (c .before .found .given .1))
-
-enum-known-found-2 : tie.Need-enum-known-found-2 Inv-loop μ-loop
-enum-known-found-2 c = search needs
 
 counted-requires : tie.Need-counted-requires Inv-loop μ-loop
 counted-requires c κs = omega (arith, turnAt (c .before .before .before) .inv, scanned (turnAt (c .before .before .before)), found (recordAt c))
@@ -93,20 +72,11 @@ part-act-at-start c = omega (arith, found (recordAt (c .before)))
 part-act-at-end : tie.Need-part-act-at-end Inv-loop μ-loop
 part-act-at-end c = omega (arith, found (recordAt (c .before)))
 
-act-at-requires : tie.Need-act-at-requires Inv-loop μ-loop
-act-at-requires c κs = search needs
-
-enum-told-2 : tie.Need-enum-told-2 Inv-loop μ-loop
-enum-told-2 c = search needs
-
 loop-less : tie.Need-loop-less Inv-loop μ-loop
 loop-less c = omega (arith, found (recordAt (c .before .before .before .before .before .before .before .before)))
 
 loop-again : tie.Need-loop-again Inv-loop μ-loop
 loop-again c = rw (c .before .before .before .before .before .before .before .counted .ensures) (go-stay (recordAt (c .before .before .before .before .before .before .before .before)) (sym (acted (c .before .before)) ∙ c .enum-told2 .given .1))
-
-enum-known-end : tie.Need-enum-known-end Inv-loop μ-loop
-enum-known-end c = search needs
 
 cast-opens : tie.Need-cast-opens Inv-loop μ-loop
 cast-opens c = omega (arith, found (recordAt (c .before .before .before .before .before .before .before .before .before)))
@@ -137,9 +107,6 @@ loop-less-2 c = omega (arith, found (recordAt (c .before .before .before .before
 loop-again-2 : tie.Need-loop-again-2 Inv-loop μ-loop
 loop-again-2 c = rw (c .opened .ensures, c .before .before .before .before .before .before .before .before .before .counted .ensures) (go-push (recordAt (c .before .before .before .before .before .before .before .before .before .before)) (sym (acted (c .before .before .before .before)) ∙ c .before .before .end .given .1))
 
-enum-told-3 : tie.Need-enum-told-3 Inv-loop μ-loop
-enum-told-3 c = search needs
-
 pop-requires : tie.Need-pop-requires Inv-loop μ-loop
 pop-requires c κs = omega (arith, popRoom (c .before .before), depth-most (turnAt (c .before .before .before .before .before .before .before .before .before .before .before .before .before)))
 
@@ -148,12 +115,6 @@ loop-less-3 c = omega (arith, found (recordAt (c .before .before .before .before
 
 loop-again-3 : tie.Need-loop-again-3 Inv-loop μ-loop
 loop-again-3 c = rw (c .pop .ensures .0, c .pop .ensures .1 .0, c .pop .ensures .1 .1, c .before .before .before .before .before .before .before .before .before .before .counted .ensures) (go-pop (recordAt (c .before .before .before .before .before .before .before .before .before .before .before)) (sym (acted (c .before .before .before .before .before)) ∙ c .before .before .before .enum-told3 .given .1))
-
-enum-known-number : tie.Need-enum-known-number Inv-loop μ-loop
-enum-known-number c = search needs
-
-refused-requires : tie.Need-refused-requires Inv-loop μ-loop
-refused-requires c κs = search needs
 
 returns-3 : tie.Need-returns-3 Inv-loop μ-loop
 returns-3 c = both _ _ _ (c .refused .ensures ∙ at-stop (recordAt (c .before .before .before .before .before .before .before .before .before .before)) (sym (acted (c .before .before .before .before)) ∙ c .before .before .number .given .1))
@@ -164,26 +125,26 @@ check-spec =
     (tie.spec
     Inv-loop
     μ-loop
-    new-requires
-    no-counts-requires
+    (λ c κs. search needs)
+    (λ c κs. search needs)
     loop-holds
-    scan-at-requires
-    enum-told
-    innermost-requires
+    (λ c κs. search needs)
+    (λ c. search needs)
+    (λ c κs. search needs)
     at-end-requires
     returns
-    enum-known-found
+    (λ c. search needs)
     returns-2
-    enum-known-found-2
+    (λ c. search needs)
     counted-requires
     sub-act-at
     part-act-at-start
     part-act-at-end
-    act-at-requires
-    enum-told-2
+    (λ c κs. search needs)
+    (λ c. search needs)
     loop-less
     loop-again
-    enum-known-end
+    (λ c. search needs)
     cast-opens
     mul-opens
     element-write-opens
@@ -193,10 +154,10 @@ check-spec =
     opened-requires
     loop-less-2
     loop-again-2
-    enum-told-3
+    (λ c. search needs)
     pop-requires
     loop-less-3
     loop-again-3
-    enum-known-number
-    refused-requires
+    (λ c. search needs)
+    (λ c κs. search needs)
     returns-3)

@@ -4,7 +4,7 @@ use borrow.Author.Needs.{needs}
 use native.Mathlib.Omega.{arith}
 use Prim.Native.Nat.{_-_}
 use mathlib.Core.Path.{sym, _∙_}
-use Rattle.opener.proofs.Openers.{opener-read}
+use Rattle.climb.proofs.Openers.{opener-read}
 use Rattle.climb.proofs.Climbs.{Climbing, climbing-first, at-top, at-full, at-above, at-missing, going-up}
 use Rattle.climb.proofs.climb_from.Statement.{statement}
 use Rattle.climb.proofs.climb_from.Tie as tie
@@ -15,44 +15,20 @@ Inv-loop s i first chain₀ index₀ parent₀ chain index parent = Climbing s i
 abbrev μ-loop : tie.MeasureT-loop
 μ-loop s i first chain₀ index₀ parent₀ chain index parent = 64 - chain .depth
 
-new-requires : tie.Need-new-requires Inv-loop μ-loop
-new-requires c κs = search needs
-
 loop-holds : tie.Need-loop-holds Inv-loop μ-loop
 loop-holds c = climbing-first _ _ _ _ (c .new .ensures)
-
-reached-requires : tie.Need-reached-requires Inv-loop μ-loop
-reached-requires c κs = search needs
 
 returns : tie.Need-returns Inv-loop μ-loop
 returns c = c .reached .ensures ∙ at-top _ _ _ _ _ _ (c .before .before .loop .inv) (c .before .if1 .taken)
 
-stopped-requires : tie.Need-stopped-requires Inv-loop μ-loop
-stopped-requires c κs = search needs
-
 returns-2 : tie.Need-returns-2 Inv-loop μ-loop
 returns-2 c = c .stopped .ensures ∙ at-full _ _ _ _ _ _ (c .before .before .before .loop .inv) (c .before .before .if1 .left) (c .before .if2 .taken)
-
-stopped-requires-2 : tie.Need-stopped-requires-2 Inv-loop μ-loop
-stopped-requires-2 c κs = search needs
 
 returns-3 : tie.Need-returns-3 Inv-loop μ-loop
 returns-3 c = c .stopped2 .ensures ∙ at-above _ _ _ _ _ _ (c .before .before .before .before .loop .inv) (c .before .before .before .if1 .left) (c .before .before .if2 .left) (c .before .if3 .taken)
 
-opener-at-requires : tie.Need-opener-at-requires Inv-loop μ-loop
-opener-at-requires c κs = search needs
-
-enum-told : tie.Need-enum-told Inv-loop μ-loop
-enum-told c = search needs
-
-stopped-requires-3 : tie.Need-stopped-requires-3 Inv-loop μ-loop
-stopped-requires-3 c κs = search needs
-
 returns-4 : tie.Need-returns-4 Inv-loop μ-loop
 returns-4 c = c .stopped3 .ensures ∙ at-missing _ _ _ _ _ _ (c .before .before .before .before .before .before .before .loop .inv) (c .before .before .before .before .before .before .if1 .left) (c .before .before .before .before .before .if2 .left) (c .before .before .before .before .if3 .left) _ (sym (c .before .before .before .opener-at .ensures) ∙ c .before .enum-told .given .1)
-
-enum-known-next : tie.Need-enum-known-next Inv-loop μ-loop
-enum-known-next c = search needs
 
 cast-chain : tie.Need-cast-chain Inv-loop μ-loop
 cast-chain c = omega (arith, opener-read _ _ _ (sym (c .before .before .before .opener-at .ensures) ∙ c .before .next .given .1))
@@ -78,19 +54,19 @@ climb-from-spec =
     (tie.spec
     Inv-loop
     μ-loop
-    new-requires
+    (λ c κs. search needs)
     loop-holds
-    reached-requires
+    (λ c κs. search needs)
     returns
-    stopped-requires
+    (λ c κs. search needs)
     returns-2
-    stopped-requires-2
+    (λ c κs. search needs)
     returns-3
-    opener-at-requires
-    enum-told
-    stopped-requires-3
+    (λ c κs. search needs)
+    (λ c. search needs)
+    (λ c κs. search needs)
     returns-4
-    enum-known-next
+    (λ c. search needs)
     cast-chain
     mul-chain
     element-write-chain

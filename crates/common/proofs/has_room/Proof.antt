@@ -15,9 +15,6 @@ returns c =
     let a = c .before .args in
     sym (lt-leb (a .at + a .n) (length (now (a .s))) (omega arith))
 
-sub-if2 : tie.Need-sub-if2
-sub-if2 c = search needs
-
 returns-2 : tie.Need-returns-2
 returns-2 c =
     let a = c .before .before .args in
@@ -29,4 +26,4 @@ returns-3 c =
     sym (lt-leb (a .at + a .n) (length (now (a .s))) (omega arith))
 
 pub has-room-spec : {M : Type 1} → statement M
-has-room-spec = tie.close (tie.spec returns sub-if2 returns-2 returns-3)
+has-room-spec = tie.close (tie.spec returns (λ c. search needs) returns-2 returns-3)

@@ -6,11 +6,8 @@ use Rattle.common.proofs.Laws.{le-one}
 use Rattle.common.proofs.u8_at.Statement.{statement}
 use Rattle.common.proofs.u8_at.Tie as tie
 
-shared-slice-read-result : tie.Need-shared-slice-read-result
-shared-slice-read-result c = search needs
-
 returns : tie.Need-returns
 returns c = le-one (now (c .before .args .s)) (c .before .args .at)
 
 pub u8-at-spec : {M : Type 1} → statement M
-u8-at-spec = tie.close (tie.spec shared-slice-read-result returns)
+u8-at-spec = tie.close (tie.spec (λ c. search needs) returns)

@@ -9,9 +9,6 @@ use Rattle.constants.proofs.Codes.{number-there, class-place}
 use Rattle.constants.proofs.class_number.Statement.{statement}
 use Rattle.constants.proofs.class_number.Tie as tie
 
-code-of-requires : tie.Need-code-of-requires
-code-of-requires c κs = search needs
-
 place : (c : tie.After-code-of) → c .code-of .result / 4 ≡ codeOf (c .before .args .kind) / 4
 place c = ap (λ (n : ℕ). n / 4) (c .code-of .ensures)
 
@@ -22,4 +19,4 @@ returns : tie.Need-returns
 returns c = place c ∙ number-there (c .before .args .kind)
 
 pub class-number-spec : {M : Type 1} → statement M
-class-number-spec = tie.close (tie.spec code-of-requires cast-result returns)
+class-number-spec = tie.close (tie.spec (λ c κs. search needs) cast-result returns)

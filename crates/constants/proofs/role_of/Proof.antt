@@ -13,9 +13,6 @@ use Rattle.constants.proofs.role_of.Tie as tie
 role : (c : tie.After-code-of) → codeOf (c .before .args .kind) % 4 ≡ c .code-of .result % 4
 role c = ap (λ (x : ℕ). x % 4) (sym (c .code-of .ensures))
 
-code-of-requires : tie.Need-code-of-requires
-code-of-requires c κs = search needs
-
 returns : tie.Need-returns
 returns c = role-at 1 _ (role (c .before) ∙ c .match .keys1)
 
@@ -26,4 +23,4 @@ returns-3 : tie.Need-returns-3
 returns-3 c = role-at 0 _ (let e = role (c .before) in omega (arith, e, role-place (c .before .before .args .kind), c .match .rest))
 
 pub role-of-spec : {M : Type 1} → statement M
-role-of-spec = tie.close (tie.spec code-of-requires returns returns-2 returns-3)
+role-of-spec = tie.close (tie.spec (λ c κs. search needs) returns returns-2 returns-3)

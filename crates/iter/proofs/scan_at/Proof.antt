@@ -6,17 +6,8 @@ use Rattle.iter.proofs.Laws.{scan-long, scan-inside, scan-past}
 use Rattle.iter.proofs.scan_at.Statement.{statement}
 use Rattle.iter.proofs.scan_at.Tie as tie
 
-scanned-requires : tie.Need-scanned-requires
-scanned-requires c κs = search needs
-
 returns : tie.Need-returns
-returns c = c .scanned .ensures ∙ scan-long _ _ (c .before .if1 .taken)
-
-scan-within-requires : tie.Need-scan-within-requires
-scan-within-requires c κs = search needs
-
-scan-within-requires-2 : tie.Need-scan-within-requires-2
-scan-within-requires-2 c κs = search needs
+returns c = c .scanned .ensures ∙ rw (c .before .refused .ensures) (scan-long _ _ (c .before .before .if1 .taken))
 
 returns-2 : tie.Need-returns-2
 returns-2 c = c .scan-within .ensures ∙ scan-inside _ _ (c .before .before .if1 .left) (c .before .if2 .taken)
@@ -28,9 +19,10 @@ pub scan-at-spec : {M : Type 1} → statement M
 scan-at-spec =
     tie.close
     (tie.spec
-    scanned-requires
+    (λ c κs. search needs)
+    (λ c κs. search needs)
     returns
-    scan-within-requires
-    scan-within-requires-2
+    (λ c κs. search needs)
+    (λ c κs. search needs)
     returns-2
     returns-3)

@@ -27,38 +27,17 @@ fits c = whole-fits _ _ _ _ (found c)
 loop-holds : tie.Need-loop-holds Inv-loop μ-loop
 loop-holds c = comes-first _ _ (c .before .pre)
 
-frame-at-requires : tie.Need-frame-at-requires Inv-loop μ-loop
-frame-at-requires c κs = search needs
-
-enum-told : tie.Need-enum-told Inv-loop μ-loop
-enum-told c = search needs
-
-scanned-requires : tie.Need-scanned-requires Inv-loop μ-loop
-scanned-requires c κs = search needs
-
 returns : tie.Need-returns Inv-loop μ-loop
 returns c = c .scanned .ensures ∙ at-nothing _ _ _ _ _ (c .before .before .before .before .loop .inv) (sym (c .before .before .before .frame-at .ensures) ∙ c .before .enum-told .given .1)
 
-enum-known-e : tie.Need-enum-known-e Inv-loop μ-loop
-enum-known-e c = search needs
-
-scanned-requires-2 : tie.Need-scanned-requires-2 Inv-loop μ-loop
-scanned-requires-2 c κs = search needs
-
 returns-2 : tie.Need-returns-2 Inv-loop μ-loop
 returns-2 c = c .scanned2 .ensures ∙ at-refused _ _ _ _ _ (c .before .before .before .before .before .loop .inv) _ (sym (c .before .before .before .before .frame-at .ensures) ∙ c .before .before .e .given .1)
-
-enum-known-kind : tie.Need-enum-known-kind Inv-loop μ-loop
-enum-known-kind c = search needs
 
 add-start : tie.Need-add-start Inv-loop μ-loop
 add-start c = omega (arith, fits c)
 
 add-after : tie.Need-add-after Inv-loop μ-loop
 add-after c = omega (arith, fits c)
-
-is-filler-requires : tie.Need-is-filler-requires Inv-loop μ-loop
-is-filler-requires c κs = search needs
 
 add-passed : tie.Need-add-passed Inv-loop μ-loop
 add-passed c = omega (arith, fits (c .before .before), c .before .before .before .before .before .before .loop .inv)
@@ -75,9 +54,6 @@ loop-less c = omega (arith, fits (c .before .before))
 loop-again : tie.Need-loop-again Inv-loop μ-loop
 loop-again c = at-filler _ _ _ _ _ (c .before .before .before .before .before .before .loop .inv) _ _ (found (c .before .before)) (sym (c .before .is-filler .ensures) ∙ c .if1 .taken)
 
-scanned-requires-3 : tie.Need-scanned-requires-3 Inv-loop μ-loop
-scanned-requires-3 c κs = search needs
-
 returns-3 : tie.Need-returns-3 Inv-loop μ-loop
 returns-3 c = c .scanned3 .ensures ∙ at-record _ _ _ _ _ (c .before .before .before .before .before .before .before .loop .inv) _ _ (found (c .before .before .before)) (sym (c .before .before .is-filler .ensures) ∙ c .before .if1 .left)
 
@@ -88,21 +64,21 @@ scan-within-spec =
     Inv-loop
     μ-loop
     loop-holds
-    frame-at-requires
-    enum-told
-    scanned-requires
+    (λ c κs. search needs)
+    (λ c. search needs)
+    (λ c κs. search needs)
     returns
-    enum-known-e
-    scanned-requires-2
+    (λ c. search needs)
+    (λ c κs. search needs)
     returns-2
-    enum-known-kind
+    (λ c. search needs)
     add-start
     add-after
-    is-filler-requires
+    (λ c κs. search needs)
     add-passed
     add-skipped
     add-skipped-2
     loop-less
     loop-again
-    scanned-requires-3
+    (λ c κs. search needs)
     returns-3)

@@ -7,12 +7,9 @@ use Rattle.iter.specs.declared.Scan.{Scan}
 use Rattle.iter.proofs.step.Statement.{statement}
 use Rattle.iter.proofs.step.Tie as tie
 
-scan-at-requires : tie.Need-scan-at-requires
-scan-at-requires c κs = search needs
-
 returns : tie.Need-returns
 unfolding stepOf
 returns c = ap (λ (x : Scan). x .next) (c .scan-at .ensures)
 
 pub step-spec : {M : Type 1} → statement M
-step-spec = tie.close (tie.spec scan-at-requires returns)
+step-spec = tie.close (tie.spec (λ c κs. search needs) returns)

@@ -8,8 +8,8 @@ use lib.ListN.{length}
 use Rattle.iter.specs.Step.{scanOf, stepOf}
 use Rattle.iter.specs.declared.Next.the-variants.{Record}
 use Rattle.iter.proofs.Reading.{step-fits}
-use Rattle.finding.proofs.Goings.{going-first}
-use Rattle.hop.proofs.Hops.{push-room}
+use Rattle.chain.proofs.Goings.{going-first}
+use Rattle.jump.proofs.Hops.{push-room}
 use Rattle.jump.proofs.Jumps.{Jumping, at-end, at-refused, going-stay, going-push, over, going-over, at-miss, at-found, at-stop}
 use Rattle.jump.proofs.jump.Statement.{statement}
 use Rattle.jump.proofs.jump.Tie as tie
@@ -31,35 +31,14 @@ stepped c = sym (c .before .before .before .step .ensures) ∙ c .before .index 
 pushes : (c : tie.After-enum-told3 Inv-loop μ-loop) → c .before .before .before .before .before .before .before .before .loop .chain .depth < 64
 pushes c = push-room _ _ _ _ _ (sym (c .before .before .hop-at .ensures) ∙ c .enum-told3 .given .1)
 
-new-requires : tie.Need-new-requires Inv-loop μ-loop
-new-requires c κs = search needs
-
 loop-holds : tie.Need-loop-holds Inv-loop μ-loop
 loop-holds c = going-first _ _ _ _ (c .new .ensures)
-
-step-requires : tie.Need-step-requires Inv-loop μ-loop
-step-requires c κs = search needs
-
-enum-told : tie.Need-enum-told Inv-loop μ-loop
-enum-told c = search needs
-
-stopped-requires : tie.Need-stopped-requires Inv-loop μ-loop
-stopped-requires c κs = search needs
 
 returns : tie.Need-returns Inv-loop μ-loop
 returns c = c .stopped .ensures ∙ at-end _ _ _ _ _ _ (c .before .before .before .before .loop .inv) _ (sym (c .before .before .before .step .ensures) ∙ c .before .enum-told .given .1)
 
-enum-known-e : tie.Need-enum-known-e Inv-loop μ-loop
-enum-known-e c = search needs
-
-refused-requires : tie.Need-refused-requires Inv-loop μ-loop
-refused-requires c κs = search needs
-
 returns-2 : tie.Need-returns-2 Inv-loop μ-loop
 returns-2 c = c .refused .ensures ∙ at-refused _ _ _ _ _ _ (c .before .before .before .before .before .loop .inv) _ (sym (c .before .before .before .before .step .ensures) ∙ c .before .before .e .given .1)
-
-enum-known-index : tie.Need-enum-known-index Inv-loop μ-loop
-enum-known-index c = search needs
 
 add-read : tie.Need-add-read Inv-loop μ-loop
 add-read c = omega (arith, c .before .before .before .before .loop .inv, step-fits _ _ _ _ _ _ (stepped c))
@@ -73,20 +52,11 @@ part-hop-at-start c = omega (arith, step-fits _ _ _ _ _ _ (stepped c))
 part-hop-at-end : tie.Need-part-hop-at-end Inv-loop μ-loop
 part-hop-at-end c = omega (arith, step-fits _ _ _ _ _ _ (stepped c))
 
-hop-at-requires : tie.Need-hop-at-requires Inv-loop μ-loop
-hop-at-requires c κs = search needs
-
-enum-told-2 : tie.Need-enum-told-2 Inv-loop μ-loop
-enum-told-2 c = search needs
-
 loop-less : tie.Need-loop-less Inv-loop μ-loop
 loop-less c = omega (arith, c .before .before .before .before .before .before .before .before .loop .inv, step-fits _ _ _ _ _ _ (stepped (c .before .before .before .before)))
 
 loop-again : tie.Need-loop-again Inv-loop μ-loop
 loop-again c = going-stay _ _ _ _ _ _ (c .before .before .before .before .before .before .before .before .loop .inv) _ _ _ _ (stepped (c .before .before .before .before)) (sym (c .before .before .hop-at .ensures) ∙ c .enum-told2 .given .1)
-
-enum-told-3 : tie.Need-enum-told-3 Inv-loop μ-loop
-enum-told-3 c = search needs
 
 cast-chain : tie.Need-cast-chain Inv-loop μ-loop
 cast-chain c = omega (arith, c .before .before .before .before .before .before .before .before .loop .inv, step-fits _ _ _ _ _ _ (stepped (c .before .before .before .before)))
@@ -106,15 +76,6 @@ loop-less-2 c = omega (arith, c .before .before .before .before .before .before 
 loop-again-2 : tie.Need-loop-again-2 Inv-loop μ-loop
 loop-again-2 c = going-push _ _ _ _ _ _ (c .before .before .before .before .before .before .before .before .loop .inv) _ _ _ _ (stepped (c .before .before .before .before)) (sym (c .before .before .hop-at .ensures) ∙ c .enum-told3 .given .1)
 
-enum-known-end : tie.Need-enum-known-end Inv-loop μ-loop
-enum-known-end c = search needs
-
-land-at-requires : tie.Need-land-at-requires Inv-loop μ-loop
-land-at-requires c κs = search needs
-
-enum-known-after : tie.Need-enum-known-after Inv-loop μ-loop
-enum-known-after c = search needs
-
 add-read-2 : tie.Need-add-read-2 Inv-loop μ-loop
 add-read-2 c = omega (arith, c .before .before .before .before .before .before .before .before .before .before .before .before .before .loop .inv, step-fits _ _ _ _ _ _ (stepped (c .before .before .before .before .before .before .before .before .before)), over _ _ _ _ _ _ (c .before .before .before .before .before .before .before .before .before .before .before .before .before .loop .inv) _ _ _ _ (stepped (c .before .before .before .before .before .before .before .before .before)) _ _ (sym (c .before .before .before .before .before .before .before .hop-at .ensures) ∙ c .before .before .before .before .before .end .given .1) (sym (c .before .before .before .land-at .ensures) ∙ c .before .after .given .1))
 
@@ -124,29 +85,11 @@ loop-less-3 c = omega (arith, c .before .before .before .before .before .before 
 loop-again-3 : tie.Need-loop-again-3 Inv-loop μ-loop
 loop-again-3 c = going-over _ _ _ _ _ _ (c .before .before .before .before .before .before .before .before .before .before .before .before .before .loop .inv) _ _ _ _ (stepped (c .before .before .before .before .before .before .before .before .before)) _ _ (sym (c .before .before .before .before .before .before .before .hop-at .ensures) ∙ c .before .before .before .before .before .end .given .1) (sym (c .before .before .before .land-at .ensures) ∙ c .before .after .given .1)
 
-enum-known-e-2 : tie.Need-enum-known-e-2 Inv-loop μ-loop
-enum-known-e-2 c = search needs
-
-refused-requires-2 : tie.Need-refused-requires-2 Inv-loop μ-loop
-refused-requires-2 c κs = search needs
-
 returns-3 : tie.Need-returns-3 Inv-loop μ-loop
 returns-3 c = c .refused2 .ensures ∙ at-miss _ _ _ _ _ _ (c .before .before .before .before .before .before .before .before .before .before .before .before .before .before .loop .inv) _ _ _ _ (stepped (c .before .before .before .before .before .before .before .before .before .before)) _ _ (sym (c .before .before .before .before .before .before .before .before .hop-at .ensures) ∙ c .before .before .before .before .before .before .end .given .1) (sym (c .before .before .before .before .land-at .ensures) ∙ c .before .before .e2 .given .1)
 
-enum-told-4 : tie.Need-enum-told-4 Inv-loop μ-loop
-enum-told-4 c = search needs
-
-found-requires : tie.Need-found-requires Inv-loop μ-loop
-found-requires c κs = search needs
-
 returns-4 : tie.Need-returns-4 Inv-loop μ-loop
 returns-4 c = c .found .ensures ∙ at-found _ _ _ _ _ _ (c .before .before .before .before .before .before .before .before .before .loop .inv) _ _ _ _ (stepped (c .before .before .before .before .before)) (sym (c .before .before .before .hop-at .ensures) ∙ c .before .enum-told4 .given .1)
-
-enum-known-number : tie.Need-enum-known-number Inv-loop μ-loop
-enum-known-number c = search needs
-
-stopped-requires-2 : tie.Need-stopped-requires-2 Inv-loop μ-loop
-stopped-requires-2 c κs = search needs
 
 returns-5 : tie.Need-returns-5 Inv-loop μ-loop
 returns-5 c = c .stopped2 .ensures ∙ at-stop _ _ _ _ _ _ (c .before .before .before .before .before .before .before .before .before .before .loop .inv) _ _ _ _ (stepped (c .before .before .before .before .before .before)) _ (sym (c .before .before .before .before .hop-at .ensures) ∙ c .before .before .number .given .1)
@@ -157,43 +100,43 @@ jump-spec =
     (tie.spec
     Inv-loop
     μ-loop
-    new-requires
+    (λ c κs. search needs)
     loop-holds
-    step-requires
-    enum-told
-    stopped-requires
+    (λ c κs. search needs)
+    (λ c. search needs)
+    (λ c κs. search needs)
     returns
-    enum-known-e
-    refused-requires
+    (λ c. search needs)
+    (λ c κs. search needs)
     returns-2
-    enum-known-index
+    (λ c. search needs)
     add-read
     sub-hop-at
     part-hop-at-start
     part-hop-at-end
-    hop-at-requires
-    enum-told-2
+    (λ c κs. search needs)
+    (λ c. search needs)
     loop-less
     loop-again
-    enum-told-3
+    (λ c. search needs)
     cast-chain
     mul-chain
     element-write-chain
     add-chain
     loop-less-2
     loop-again-2
-    enum-known-end
-    land-at-requires
-    enum-known-after
+    (λ c. search needs)
+    (λ c κs. search needs)
+    (λ c. search needs)
     add-read-2
     loop-less-3
     loop-again-3
-    enum-known-e-2
-    refused-requires-2
+    (λ c. search needs)
+    (λ c κs. search needs)
     returns-3
-    enum-told-4
-    found-requires
+    (λ c. search needs)
+    (λ c κs. search needs)
     returns-4
-    enum-known-number
-    stopped-requires-2
+    (λ c. search needs)
+    (λ c κs. search needs)
     returns-5)

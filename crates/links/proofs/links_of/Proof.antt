@@ -11,15 +11,6 @@ use Rattle.links.proofs.links_of.Tie as tie
 found : (c : tie.After-enum-told2) → Found (c .before .before .before .before .args .rec .now)
 found c = links-answered _ _ (c .before .before .before .before .pre) (sym (c .before .before .name .ensures) ∙ c .enum-told2 .given .1)
 
-name-requires : tie.Need-name-requires
-name-requires c κs = search needs
-
-enum-told : tie.Need-enum-told
-enum-told c = search needs
-
-enum-told-2 : tie.Need-enum-told-2
-enum-told-2 c = search needs
-
 u32-at-requires : tie.Need-u32-at-requires
 u32-at-requires c κs = let f = found c in omega arith
 
@@ -36,9 +27,9 @@ pub links-of-spec : {M : Type 1} → statement M
 links-of-spec =
     tie.close
     (tie.spec
-    name-requires
-    enum-told
-    enum-told-2
+    (λ c κs. search needs)
+    (λ c. search needs)
+    (λ c. search needs)
     u32-at-requires
     u32-at-requires-2
     returns

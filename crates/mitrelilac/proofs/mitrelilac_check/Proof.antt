@@ -1,19 +1,13 @@
 -- `mitrelilac::mitrelilac_check` meets its contract.
 -- Assumes nothing.
 use borrow.Author.Needs.{needs}
-use Rattle.replies.specs.Replies.{checkReply}
+use Rattle.reply.specs.Replies.{checkReply}
 use Rattle.mitrelilac.proofs.Replies.{replied-as}
 use Rattle.mitrelilac.proofs.mitrelilac_check.Statement.{statement}
 use Rattle.mitrelilac.proofs.mitrelilac_check.Tie as tie
-
-check-requires : tie.Need-check-requires
-check-requires c κs = search needs
-
-reply-check-requires : tie.Need-reply-check-requires
-reply-check-requires c κs = search needs
 
 returns : tie.Need-returns
 returns c = replied-as checkReply (c .before .before .check .ensures .0) (c .reply-check .ensures)
 
 pub mitrelilac-check-spec : {M : Type 1} → statement M
-mitrelilac-check-spec = tie.close (tie.spec check-requires reply-check-requires returns)
+mitrelilac-check-spec = tie.close (tie.spec (λ c κs. search needs) (λ c κs. search needs) returns)

@@ -12,27 +12,15 @@ use Rattle.names.proofs.Names.{part-within, part-outside}
 use Rattle.names.proofs.as_bytes.Statement.{statement}
 use Rattle.names.proofs.as_bytes.Tie as tie
 
-has-room-requires : tie.Need-has-room-requires
-has-room-requires c κs = search needs
-
 add-result : tie.Need-add-result
 add-result c =
     let a = c .before .before .before .args in
     omega (arith, room (a .p .start + a .p .len) (length (now (a .s))) (c .before .has-room .ensures) (c .if1 .taken))
 
-sub-result : tie.Need-sub-result
-sub-result c = search needs
-
-part-result-start : tie.Need-part-result-start
-part-result-start c = search needs
-
 part-result-end : tie.Need-part-result-end
 part-result-end c =
     let a = c .before .before .before .args in
     room (a .p .start + a .p .len) (length (now (a .s))) (c .before .has-room .ensures) (c .if1 .taken)
-
-slice-aggregate-result : tie.Need-slice-aggregate-result
-slice-aggregate-result c = search needs
 
 returns : tie.Need-returns
 returns c =
@@ -56,11 +44,11 @@ pub as-bytes-spec : {M : Type 1} → statement M
 as-bytes-spec =
     tie.close
     (tie.spec
-    has-room-requires
+    (λ c κs. search needs)
     add-result
-    sub-result
-    part-result-start
+    (λ c. search needs)
+    (λ c. search needs)
     part-result-end
-    slice-aggregate-result
+    (λ c. search needs)
     returns
     returns-2)

@@ -13,18 +13,6 @@ returns c =
     let a = c .before .before .args in
     cstring-short (now (a .s)) (a .at) refl (omega arith)
 
-before-zero-requires : tie.Need-before-zero-requires
-before-zero-requires c κs = search needs
-
-sub-if2 : tie.Need-sub-if2
-sub-if2 c = search needs
-
-add-t10 : tie.Need-add-t10
-add-t10 c = search needs
-
-add-t11 : tie.Need-add-t11
-add-t11 c = search needs
-
 returns-2 : tie.Need-returns-2
 returns-2 c =
     let a = c .before .before .before .before .args in
@@ -37,4 +25,4 @@ returns-3 c =
 
 pub parse-cstring-spec : {M : Type 1} → statement M
 parse-cstring-spec =
-    tie.close (tie.spec returns before-zero-requires sub-if2 add-t10 add-t11 returns-2 returns-3)
+    tie.close (tie.spec returns (λ c κs. search needs) (λ c. search needs) (λ c. search needs) (λ c. search needs) returns-2 returns-3)

@@ -6,12 +6,6 @@ use Rattle.names.proofs.Names.{name-pascal, name-cstring}
 use Rattle.names.proofs.parse_symbol_name.Statement.{statement}
 use Rattle.names.proofs.parse_symbol_name.Tie as tie
 
-parse-u8-pascal-string-requires : tie.Need-parse-u8-pascal-string-requires
-parse-u8-pascal-string-requires c κs = search needs
-
-parse-cstring-requires : tie.Need-parse-cstring-requires
-parse-cstring-requires c κs = search needs
-
 returns : tie.Need-returns
 returns c = c .parse-u8-pascal-string .ensures ∙ name-pascal _ _ _ (c .before .if1 .taken)
 
@@ -20,4 +14,4 @@ returns-2 c = c .parse-cstring .ensures ∙ name-cstring _ _ _ (c .before .if1 .
 
 pub parse-symbol-name-spec : {M : Type 1} → statement M
 parse-symbol-name-spec =
-    tie.close (tie.spec parse-u8-pascal-string-requires parse-cstring-requires returns returns-2)
+    tie.close (tie.spec (λ c κs. search needs) (λ c κs. search needs) returns returns-2)

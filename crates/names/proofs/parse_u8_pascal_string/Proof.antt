@@ -7,18 +7,6 @@ use Rattle.names.proofs.Names.{pascal-value, pascal-short}
 use Rattle.names.proofs.parse_u8_pascal_string.Statement.{statement}
 use Rattle.names.proofs.parse_u8_pascal_string.Tie as tie
 
-add-take : tie.Need-add-take
-add-take c = search needs
-
-u8-at-requires : tie.Need-u8-at-requires
-u8-at-requires c κs = search needs
-
-cast-take : tie.Need-cast-take
-cast-take c = search needs
-
-take-requires : tie.Need-take-requires
-take-requires c κs = search needs
-
 returns : tie.Need-returns
 returns c =
     let a = c .before .before .before .before .args in
@@ -31,4 +19,4 @@ returns-2 c =
 
 pub parse-u8-pascal-string-spec : {M : Type 1} → statement M
 parse-u8-pascal-string-spec =
-    tie.close (tie.spec add-take u8-at-requires cast-take take-requires returns returns-2)
+    tie.close (tie.spec (λ c. search needs) (λ c κs. search needs) (λ c. search needs) (λ c κs. search needs) returns returns-2)

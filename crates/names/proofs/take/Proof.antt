@@ -10,9 +10,6 @@ use Rattle.names.proofs.Names.{bytes-value, bytes-short}
 use Rattle.names.proofs.take.Statement.{statement}
 use Rattle.names.proofs.take.Tie as tie
 
-has-room-requires : tie.Need-has-room-requires
-has-room-requires c κs = search needs
-
 add-t7 : tie.Need-add-t7
 add-t7 c =
     let a = c .before .before .before .args in
@@ -25,4 +22,4 @@ returns-2 : tie.Need-returns-2
 returns-2 c = bytes-short _ _ _ (c .before .has-room .ensures) (c .if1 .left)
 
 pub take-spec : {M : Type 1} → statement M
-take-spec = tie.close (tie.spec has-room-requires add-t7 returns returns-2)
+take-spec = tie.close (tie.spec (λ c κs. search needs) add-t7 returns returns-2)

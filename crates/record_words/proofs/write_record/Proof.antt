@@ -6,14 +6,8 @@ use Rattle.record_words.proofs.Stores.{record-written}
 use Rattle.record_words.proofs.write_record.Statement.{statement}
 use Rattle.record_words.proofs.write_record.Tie as tie
 
-put-fields-requires : tie.Need-put-fields-requires
-put-fields-requires c κs = search needs
-
-put2-requires : tie.Need-put2-requires
-put2-requires c κs = search needs
-
 returns : tie.Need-returns
 returns c = c .put2 .ensures ∙ record-written _ _ _ _ _ (c .before .put2-arg .given .0 .1) (c .before .before .put-fields .ensures)
 
 pub write-record-spec : {M : Type 1} → statement M
-write-record-spec = tie.close (tie.spec put-fields-requires put2-requires returns)
+write-record-spec = tie.close (tie.spec (λ c κs. search needs) (λ c κs. search needs) returns)

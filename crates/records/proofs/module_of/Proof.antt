@@ -6,9 +6,6 @@ use Rattle.records.specs.Field.{moduleOf}
 use Rattle.records.proofs.module_of.Statement.{statement}
 use Rattle.records.proofs.module_of.Tie as tie
 
-sub-t4 : tie.Need-sub-t4
-sub-t4 c = search needs
-
 returns : tie.Need-returns
 unfolding moduleOf
 returns c = rw (eq-eqb _ 0 (c .if1 .taken))
@@ -18,4 +15,4 @@ unfolding moduleOf
 returns-2 c = rw (ne-eqb _ 0 (c .if1 .left))
 
 pub module-of-spec : {M : Type 1} → statement M
-module-of-spec = tie.close (tie.spec sub-t4 returns returns-2)
+module-of-spec = tie.close (tie.spec (λ c. search needs) returns returns-2)

@@ -8,15 +8,6 @@ use Rattle.registers.proofs.parse_multi_register_variable.Tie as tie
 returns : tie.Need-returns
 returns c = multi-short 2 _ _ 2 (count-long _ (c .before .if1 .taken)) (c .if2 .taken)
 
-u32-at-requires : tie.Need-u32-at-requires
-u32-at-requires c κs = search needs
-
-u16-at-requires : tie.Need-u16-at-requires
-u16-at-requires c κs = search needs
-
-register-list-requires : tie.Need-register-list-requires
-register-list-requires c κs = search needs
-
 returns-2 : tie.Need-returns-2
 returns-2 c =
     let t = c .before .before .before in
@@ -24,18 +15,6 @@ returns-2 c =
 
 returns-3 : tie.Need-returns-3
 returns-3 c = multi-short 1 _ _ 2 (count-short _ (c .before .if1 .left)) (c .if3 .taken)
-
-u32-at-requires-2 : tie.Need-u32-at-requires-2
-u32-at-requires-2 c κs = search needs
-
-u8-at-requires : tie.Need-u8-at-requires
-u8-at-requires c κs = search needs
-
-cast-register-list : tie.Need-cast-register-list
-cast-register-list c = search needs
-
-register-list-requires-2 : tie.Need-register-list-requires-2
-register-list-requires-2 c κs = search needs
 
 returns-4 : tie.Need-returns-4
 returns-4 c =
@@ -47,13 +26,13 @@ parse-multi-register-variable-spec =
     tie.close
     (tie.spec
     returns
-    u32-at-requires
-    u16-at-requires
-    register-list-requires
+    (λ c κs. search needs)
+    (λ c κs. search needs)
+    (λ c κs. search needs)
     returns-2
     returns-3
-    u32-at-requires-2
-    u8-at-requires
-    cast-register-list
-    register-list-requires-2
+    (λ c κs. search needs)
+    (λ c κs. search needs)
+    (λ c. search needs)
+    (λ c κs. search needs)
     returns-4)

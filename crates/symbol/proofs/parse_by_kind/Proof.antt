@@ -3,8 +3,8 @@
 use borrow.Author.Needs.{needs}
 use mathlib.Core.Path.{_∙_}
 use mathlib.Core.List.{[]}
-use Rattle.layouts.specs.Decode.{layout}
-use Rattle.layouts.proofs.Decoding.{chosen}
+use Rattle.symbol.specs.Decode.{layout}
+use Rattle.symbol.proofs.Decoding.{chosen}
 use Rattle.symbol.proofs.parse_by_kind.Statement.{statement}
 use Rattle.symbol.proofs.parse_by_kind.Tie as tie
 

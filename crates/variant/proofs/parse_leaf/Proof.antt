@@ -5,76 +5,13 @@ use mir.Syntax.{w16, w32, w64}
 use mir.Facts.{toZ-ofZ}
 use mathlib.Core.Path.{refl, sym, ap, _∙_}
 use Rattle.common.specs.Reader.{uint, sint}
-use Rattle.unsigned.specs.Answer.{u8Of, u16Of, u32Of, u64Of}
-use Rattle.signed.specs.Answer.{i16Of, i32Of, i64Of}
+use Rattle.common.specs.Answer.{u8Of, u16Of, u32Of, u64Of}
+use Rattle.common.specs.Answer.{i16Of, i32Of, i64Of}
 use Rattle.variant.specs.Numeric.{leaf}
 use Rattle.variant.specs.declared.Variant.the-variants.{U8, U16, U32, U64, I16, I32, I64}
 use Rattle.variant.proofs.Leaf.{leaf-value, leaf-refused, leaf-unknown}
 use Rattle.variant.proofs.parse_leaf.Statement.{statement}
 use Rattle.variant.proofs.parse_leaf.Tie as tie
-
-parse-u8-requires : tie.Need-parse-u8-requires
-parse-u8-requires c κs = search needs
-
-enum-known-x : tie.Need-enum-known-x
-enum-known-x c = search needs
-
-enum-known-e : tie.Need-enum-known-e
-enum-known-e c = search needs
-
-parse-i16-requires : tie.Need-parse-i16-requires
-parse-i16-requires c κs = search needs
-
-enum-known-x-2 : tie.Need-enum-known-x-2
-enum-known-x-2 c = search needs
-
-enum-known-e-2 : tie.Need-enum-known-e-2
-enum-known-e-2 c = search needs
-
-parse-u16-requires : tie.Need-parse-u16-requires
-parse-u16-requires c κs = search needs
-
-enum-known-x-3 : tie.Need-enum-known-x-3
-enum-known-x-3 c = search needs
-
-enum-known-e-3 : tie.Need-enum-known-e-3
-enum-known-e-3 c = search needs
-
-parse-i32-requires : tie.Need-parse-i32-requires
-parse-i32-requires c κs = search needs
-
-enum-known-x-4 : tie.Need-enum-known-x-4
-enum-known-x-4 c = search needs
-
-enum-known-e-4 : tie.Need-enum-known-e-4
-enum-known-e-4 c = search needs
-
-parse-u32-requires : tie.Need-parse-u32-requires
-parse-u32-requires c κs = search needs
-
-enum-known-x-5 : tie.Need-enum-known-x-5
-enum-known-x-5 c = search needs
-
-enum-known-e-5 : tie.Need-enum-known-e-5
-enum-known-e-5 c = search needs
-
-parse-i64-requires : tie.Need-parse-i64-requires
-parse-i64-requires c κs = search needs
-
-enum-known-x-6 : tie.Need-enum-known-x-6
-enum-known-x-6 c = search needs
-
-enum-known-e-6 : tie.Need-enum-known-e-6
-enum-known-e-6 c = search needs
-
-parse-u64-requires : tie.Need-parse-u64-requires
-parse-u64-requires c κs = search needs
-
-enum-known-x-7 : tie.Need-enum-known-x-7
-enum-known-x-7 c = search needs
-
-enum-known-e-7 : tie.Need-enum-known-e-7
-enum-known-e-7 c = search needs
 
 returns : tie.Need-returns
 unfolding leaf
@@ -165,34 +102,36 @@ returns-14 c =
 
 returns-15 : tie.Need-returns-15
 returns-15 c =
-    let n = c .match .rest in
-    leaf-unknown _ _ _ (n .0 .0 .0 .0 .0 .0 .1) (n .0 .0 .0 .0 .0 .1) (n .0 .0 .0 .0 .1) (n .0 .0 .0 .1) (n .0 .0 .1) (n .0 .1) (n .1)
+    let n = c .before .match .rest in
+    rw (c .of .ensures)
+    (leaf-unknown _ _ _ (n .0 .0 .0 .0 .0 .0 .1) (n .0 .0 .0 .0 .0 .1) (n .0 .0 .0 .0 .1) (n .0 .0 .0 .1) (n .0 .0 .1) (n .0 .1) (n .1))
 
 pub parse-leaf-spec : {M : Type 1} → statement M
 parse-leaf-spec =
     tie.close
     (tie.spec
-    parse-u8-requires
-    enum-known-x
-    enum-known-e
-    parse-i16-requires
-    enum-known-x-2
-    enum-known-e-2
-    parse-u16-requires
-    enum-known-x-3
-    enum-known-e-3
-    parse-i32-requires
-    enum-known-x-4
-    enum-known-e-4
-    parse-u32-requires
-    enum-known-x-5
-    enum-known-e-5
-    parse-i64-requires
-    enum-known-x-6
-    enum-known-e-6
-    parse-u64-requires
-    enum-known-x-7
-    enum-known-e-7
+    (λ c κs. search needs)
+    (λ c. search needs)
+    (λ c. search needs)
+    (λ c κs. search needs)
+    (λ c. search needs)
+    (λ c. search needs)
+    (λ c κs. search needs)
+    (λ c. search needs)
+    (λ c. search needs)
+    (λ c κs. search needs)
+    (λ c. search needs)
+    (λ c. search needs)
+    (λ c κs. search needs)
+    (λ c. search needs)
+    (λ c. search needs)
+    (λ c κs. search needs)
+    (λ c. search needs)
+    (λ c. search needs)
+    (λ c κs. search needs)
+    (λ c. search needs)
+    (λ c. search needs)
+    (λ c κs. search needs)
     returns
     returns-2
     returns-3

@@ -2,22 +2,10 @@
 -- Assumes nothing.
 use borrow.Author.Needs.{needs}
 use mathlib.Core.Path.{sym, ap, _∙_}
-use Rattle.unsigned.specs.Answer.{u16Of}
+use Rattle.common.specs.Answer.{u16Of}
 use Rattle.variant.proofs.Leaf.{numeric-refused, numeric-small, numeric-leaf}
 use Rattle.variant.proofs.parse_variant.Statement.{statement}
 use Rattle.variant.proofs.parse_variant.Tie as tie
-
-parse-u16-requires : tie.Need-parse-u16-requires
-parse-u16-requires c κs = search needs
-
-enum-known-prefix : tie.Need-enum-known-prefix
-enum-known-prefix c = search needs
-
-parse-leaf-requires : tie.Need-parse-leaf-requires
-parse-leaf-requires c κs = search needs
-
-enum-known-e : tie.Need-enum-known-e
-enum-known-e c = search needs
 
 returns : tie.Need-returns
 returns c = numeric-small _ _ (sym (ap u16Of (c .before .before .prefix .given .1)) ∙ c .before .before .before .before .parse-u16 .ensures) (c .if1 .taken)
@@ -32,10 +20,10 @@ pub parse-variant-spec : {M : Type 1} → statement M
 parse-variant-spec =
     tie.close
     (tie.spec
-    parse-u16-requires
-    enum-known-prefix
-    parse-leaf-requires
-    enum-known-e
+    (λ c κs. search needs)
+    (λ c. search needs)
+    (λ c κs. search needs)
+    (λ c. search needs)
     returns
     returns-2
     returns-3)

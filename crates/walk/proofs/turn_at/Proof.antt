@@ -16,29 +16,17 @@ returns-2 : tie.Need-returns-2
 unfolding turnOf
 returns-2 c = rw (ne-eqb _ _ (c .before .if1 .left), lt-ltb _ _ (c .if2 .taken))
 
-nesting-role-requires : tie.Need-nesting-role-requires
-nesting-role-requires c κs = search needs
-
-enum-told : tie.Need-enum-told
-enum-told c = search needs
-
 returns-3 : tie.Need-returns-3
 returns-3 c = rw (turn-role _ (c .before .before .before .before .before .if1 .left) (c .before .before .before .before .if2 .left) (sym (c .before .before .before .nesting-role .ensures) ∙ c .before .enum-told .given .1), le-leb _ _ (c .if3 .taken))
 
 returns-4 : tie.Need-returns-4
 returns-4 c = rw (turn-role _ (c .before .before .before .before .before .if1 .left) (c .before .before .before .before .if2 .left) (sym (c .before .before .before .nesting-role .ensures) ∙ c .before .enum-told .given .1), lt-leb _ _ (c .if3 .left))
 
-enum-told-2 : tie.Need-enum-told-2
-enum-told-2 c = search needs
-
 returns-5 : tie.Need-returns-5
 returns-5 c = rw (turn-role _ (c .before .before .before .before .before .if1 .left) (c .before .before .before .before .if2 .left) (sym (c .before .before .before .nesting-role .ensures) ∙ c .before .enum-told2 .given .1), eq-eqb _ _ (c .if4 .taken))
 
 returns-6 : tie.Need-returns-6
 returns-6 c = rw (turn-role _ (c .before .before .before .before .before .if1 .left) (c .before .before .before .before .if2 .left) (sym (c .before .before .before .nesting-role .ensures) ∙ c .before .enum-told2 .given .1), ne-eqb _ _ (c .if4 .left))
-
-enum-told-3 : tie.Need-enum-told-3
-enum-told-3 c = search needs
 
 returns-7 : tie.Need-returns-7
 returns-7 c = rw (turn-role _ (c .before .before .before .before .if1 .left) (c .before .before .before .if2 .left) (sym (c .before .before .nesting-role .ensures) ∙ c .enum-told3 .given .1))
@@ -49,12 +37,12 @@ turn-at-spec =
     (tie.spec
     returns
     returns-2
-    nesting-role-requires
-    enum-told
+    (λ c κs. search needs)
+    (λ c. search needs)
     returns-3
     returns-4
-    enum-told-2
+    (λ c. search needs)
     returns-5
     returns-6
-    enum-told-3
+    (λ c. search needs)
     returns-7)

@@ -8,7 +8,7 @@ use lib.ListN.{length}
 use Rattle.iter.specs.Step.{scanOf, stepOf}
 use Rattle.iter.specs.declared.Next.the-variants.{Record}
 use Rattle.iter.proofs.Reading.{step-fits}
-use Rattle.finding.proofs.Goings.{going-first, depth-most}
+use Rattle.chain.proofs.Goings.{going-first, depth-most}
 use Rattle.walk.proofs.Walks.{Walking, push-room, pop-room, at-end, at-refused, going-stay, going-push, going-pop, at-found, at-stop}
 use Rattle.walk.proofs.walk.Statement.{statement}
 use Rattle.walk.proofs.walk.Tie as tie
@@ -33,35 +33,14 @@ pushes c = push-room _ _ _ _ (sym (c .before .before .turn-at .ensures) ∙ c .e
 pops : (c : tie.After-enum-told4 Inv-loop μ-loop) → c .before .before .before .before .before .before .before .before .loop .chain .depth ≡ 0 → ⊥
 pops c = pop-room _ _ _ _ (sym (c .before .before .turn-at .ensures) ∙ c .enum-told4 .given .1)
 
-new-requires : tie.Need-new-requires Inv-loop μ-loop
-new-requires c κs = search needs
-
 loop-holds : tie.Need-loop-holds Inv-loop μ-loop
 loop-holds c = going-first _ _ _ _ (c .new .ensures)
-
-step-requires : tie.Need-step-requires Inv-loop μ-loop
-step-requires c κs = search needs
-
-enum-told : tie.Need-enum-told Inv-loop μ-loop
-enum-told c = search needs
-
-stopped-requires : tie.Need-stopped-requires Inv-loop μ-loop
-stopped-requires c κs = search needs
 
 returns : tie.Need-returns Inv-loop μ-loop
 returns c = c .stopped .ensures ∙ at-end _ _ _ _ _ _ (c .before .before .before .before .loop .inv) _ (sym (c .before .before .before .step .ensures) ∙ c .before .enum-told .given .1)
 
-enum-known-e : tie.Need-enum-known-e Inv-loop μ-loop
-enum-known-e c = search needs
-
-refused-requires : tie.Need-refused-requires Inv-loop μ-loop
-refused-requires c κs = search needs
-
 returns-2 : tie.Need-returns-2 Inv-loop μ-loop
 returns-2 c = c .refused .ensures ∙ at-refused _ _ _ _ _ _ (c .before .before .before .before .before .loop .inv) _ (sym (c .before .before .before .before .step .ensures) ∙ c .before .before .e .given .1)
-
-enum-known-index : tie.Need-enum-known-index Inv-loop μ-loop
-enum-known-index c = search needs
 
 add-read : tie.Need-add-read Inv-loop μ-loop
 add-read c = omega (arith, c .before .before .before .before .loop .inv, step-fits _ _ _ _ _ _ (stepped c))
@@ -75,20 +54,11 @@ part-turn-at-start c = omega (arith, step-fits _ _ _ _ _ _ (stepped c))
 part-turn-at-end : tie.Need-part-turn-at-end Inv-loop μ-loop
 part-turn-at-end c = omega (arith, step-fits _ _ _ _ _ _ (stepped c))
 
-turn-at-requires : tie.Need-turn-at-requires Inv-loop μ-loop
-turn-at-requires c κs = search needs
-
-enum-told-2 : tie.Need-enum-told-2 Inv-loop μ-loop
-enum-told-2 c = search needs
-
 loop-less : tie.Need-loop-less Inv-loop μ-loop
 loop-less c = omega (arith, c .before .before .before .before .before .before .before .before .loop .inv, step-fits _ _ _ _ _ _ (stepped (c .before .before .before .before)))
 
 loop-again : tie.Need-loop-again Inv-loop μ-loop
 loop-again c = going-stay _ _ _ _ _ _ (c .before .before .before .before .before .before .before .before .loop .inv) _ _ _ _ (stepped (c .before .before .before .before)) (sym (c .before .before .turn-at .ensures) ∙ c .enum-told2 .given .1)
-
-enum-told-3 : tie.Need-enum-told-3 Inv-loop μ-loop
-enum-told-3 c = search needs
 
 cast-chain : tie.Need-cast-chain Inv-loop μ-loop
 cast-chain c = omega (arith, c .before .before .before .before .before .before .before .before .loop .inv, step-fits _ _ _ _ _ _ (stepped (c .before .before .before .before)))
@@ -108,9 +78,6 @@ loop-less-2 c = omega (arith, c .before .before .before .before .before .before 
 loop-again-2 : tie.Need-loop-again-2 Inv-loop μ-loop
 loop-again-2 c = going-push _ _ _ _ _ _ (c .before .before .before .before .before .before .before .before .loop .inv) _ _ _ _ (stepped (c .before .before .before .before)) (sym (c .before .before .turn-at .ensures) ∙ c .enum-told3 .given .1)
 
-enum-told-4 : tie.Need-enum-told-4 Inv-loop μ-loop
-enum-told-4 c = search needs
-
 sub-chain : tie.Need-sub-chain Inv-loop μ-loop
 sub-chain c = omega (arith, pops c, depth-most _ _ _ _ _ _ (c .before .before .before .before .before .before .before .before .loop .inv))
 
@@ -129,20 +96,8 @@ loop-less-3 c = omega (arith, c .before .before .before .before .before .before 
 loop-again-3 : tie.Need-loop-again-3 Inv-loop μ-loop
 loop-again-3 c = going-pop _ _ _ _ _ _ (c .before .before .before .before .before .before .before .before .loop .inv) _ _ _ _ (stepped (c .before .before .before .before)) (sym (c .before .before .turn-at .ensures) ∙ c .enum-told4 .given .1)
 
-enum-told-5 : tie.Need-enum-told-5 Inv-loop μ-loop
-enum-told-5 c = search needs
-
-found-requires : tie.Need-found-requires Inv-loop μ-loop
-found-requires c κs = search needs
-
 returns-3 : tie.Need-returns-3 Inv-loop μ-loop
 returns-3 c = c .found .ensures ∙ at-found _ _ _ _ _ _ (c .before .before .before .before .before .before .before .before .before .loop .inv) _ _ _ _ (stepped (c .before .before .before .before .before)) (sym (c .before .before .before .turn-at .ensures) ∙ c .before .enum-told5 .given .1)
-
-enum-known-number : tie.Need-enum-known-number Inv-loop μ-loop
-enum-known-number c = search needs
-
-stopped-requires-2 : tie.Need-stopped-requires-2 Inv-loop μ-loop
-stopped-requires-2 c κs = search needs
 
 returns-4 : tie.Need-returns-4 Inv-loop μ-loop
 returns-4 c = c .stopped2 .ensures ∙ at-stop _ _ _ _ _ _ (c .before .before .before .before .before .before .before .before .before .before .loop .inv) _ _ _ _ (stepped (c .before .before .before .before .before .before)) _ (sym (c .before .before .before .before .turn-at .ensures) ∙ c .before .before .number .given .1)
@@ -153,41 +108,41 @@ walk-spec =
     (tie.spec
     Inv-loop
     μ-loop
-    new-requires
+    (λ c κs. search needs)
     loop-holds
-    step-requires
-    enum-told
-    stopped-requires
+    (λ c κs. search needs)
+    (λ c. search needs)
+    (λ c κs. search needs)
     returns
-    enum-known-e
-    refused-requires
+    (λ c. search needs)
+    (λ c κs. search needs)
     returns-2
-    enum-known-index
+    (λ c. search needs)
     add-read
     sub-turn-at
     part-turn-at-start
     part-turn-at-end
-    turn-at-requires
-    enum-told-2
+    (λ c κs. search needs)
+    (λ c. search needs)
     loop-less
     loop-again
-    enum-told-3
+    (λ c. search needs)
     cast-chain
     mul-chain
     element-write-chain
     add-chain
     loop-less-2
     loop-again-2
-    enum-told-4
+    (λ c. search needs)
     sub-chain
     mul-chain-2
     element-write-chain-2
     sub-chain-2
     loop-less-3
     loop-again-3
-    enum-told-5
-    found-requires
+    (λ c. search needs)
+    (λ c κs. search needs)
     returns-3
-    enum-known-number
-    stopped-requires-2
+    (λ c. search needs)
+    (λ c κs. search needs)
     returns-4)

@@ -10,11 +10,8 @@ use Rattle.words.proofs.i16_word.Tie as tie
 cast-i32-word : tie.Need-cast-i32-word
 cast-i32-word c = let f = c .fits .x in rw (toZ-ofZ f) (sfits-widen {w = w16} tt f)
 
-i32-word-requires : tie.Need-i32-word-requires
-i32-word-requires c κs = search needs
-
 returns : tie.Need-returns
 returns c = let f = c .before .fits .x in c .i32-word .ensures ∙ rw (toZ-ofZ f) (toZ-ofZ {w = w32} (sfits-widen {w = w16} tt f))
 
 pub i16-word-spec : {M : Type 1} → statement M
-i16-word-spec = tie.close (tie.spec cast-i32-word i32-word-requires returns)
+i16-word-spec = tie.close (tie.spec cast-i32-word (λ c κs. search needs) returns)

@@ -10,11 +10,8 @@ use Rattle.words.proofs.i32_word.Tie as tie
 cast-i64-word : tie.Need-cast-i64-word
 cast-i64-word c = let f = c .fits .x in rw (toZ-ofZ f) (sfits-widen {w = w32} tt f)
 
-i64-word-requires : tie.Need-i64-word-requires
-i64-word-requires c κs = search needs
-
 returns : tie.Need-returns
 returns c = let f = c .before .fits .x in c .i64-word .ensures ∙ rw (toZ-ofZ f) (toZ-ofZ {w = w64} (sfits-widen {w = w32} tt f))
 
 pub i32-word-spec : {M : Type 1} → statement M
-i32-word-spec = tie.close (tie.spec cast-i64-word i64-word-requires returns)
+i32-word-spec = tie.close (tie.spec cast-i64-word (λ c κs. search needs) returns)

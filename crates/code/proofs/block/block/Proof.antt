@@ -1,4 +1,4 @@
--- `blocks::block` meets its contract.
+-- `code::block::block` meets its contract.
 -- Assumes nothing.
 use borrow.Author.Needs.{needs}
 use Rattle.code.proofs.block.block.Statement.{statement}

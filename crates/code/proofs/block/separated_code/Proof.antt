@@ -1,4 +1,4 @@
--- `blocks::separated_code` meets its contract.
+-- `code::block::separated_code` meets its contract.
 -- Assumes nothing.
 use borrow.Author.Needs.{needs}
 use Rattle.code.proofs.block.separated_code.Statement.{statement}

@@ -1,4 +1,4 @@
--- `inline_sites::inline_site` meets its contract.
+-- `code::inline_site::inline_site` meets its contract.
 -- Assumes nothing.
 use borrow.Author.Needs.{needs}
 use Rattle.code.proofs.inline_site.inline_site.Statement.{statement}

@@ -1,4 +1,4 @@
--- `inline_sites::parse_inline_site` meets its contract.
+-- `code::inline_site::parse_inline_site` meets its contract.
 -- Assumes nothing.
 use borrow.Author.Needs.{needs}
 use borrow.Author.Tests.{ne-eqb}
@@ -6,15 +6,9 @@ use Rattle.code.specs.Inline.{inlineSite}
 use Rattle.code.proofs.inline_site.parse_inline_site.Statement.{statement}
 use Rattle.code.proofs.inline_site.parse_inline_site.Tie as tie
 
-parse-counted-site-requires : tie.Need-parse-counted-site-requires
-parse-counted-site-requires c κs = search needs
-
 returns : tie.Need-returns
 unfolding inlineSite
 returns c = rw (c .before .if1 .taken) (c .parse-counted-site .ensures)
-
-parse-plain-site-requires : tie.Need-parse-plain-site-requires
-parse-plain-site-requires c κs = search needs
 
 returns-2 : tie.Need-returns-2
 unfolding inlineSite
@@ -22,4 +16,4 @@ returns-2 c = rw (ne-eqb _ 0x115d (c .before .if1 .left)) (c .parse-plain-site .
 
 pub parse-inline-site-spec : {M : Type 1} → statement M
 parse-inline-site-spec =
-    tie.close (tie.spec parse-counted-site-requires returns parse-plain-site-requires returns-2)
+    tie.close (tie.spec (λ c κs. search needs) returns (λ c κs. search needs) returns-2)

@@ -1,4 +1,4 @@
--- `procedures::label` meets its contract.
+-- `code::procedure::label` meets its contract.
 -- Assumes nothing.
 use borrow.Author.Needs.{needs}
 use Rattle.code.proofs.procedure.label.Statement.{statement}

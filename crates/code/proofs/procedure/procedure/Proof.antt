@@ -1,4 +1,4 @@
--- `procedures::procedure` meets its contract.
+-- `code::procedure::procedure` meets its contract.
 -- Assumes nothing.
 use borrow.Author.Needs.{needs}
 use Rattle.code.proofs.procedure.procedure.Statement.{statement}

@@ -1,33 +1,15 @@
--- `thunks::parse_adjustor` meets its contract.
+-- `code::thunk::parse_adjustor` meets its contract.
 -- Assumes nothing.
 use borrow.Author.Needs.{needs}
 use mathlib.Core.Path.{sym, ap, _∙_}
 use Rattle.common.specs.Reader.{uint}
-use Rattle.unsigned.specs.Answer.{u16Of}
+use Rattle.common.specs.Answer.{u16Of}
 use Rattle.common.proofs.Readers.{then-value, then-refused}
 use Rattle.names.specs.Name.{cstring}
 use Rattle.names.specs.Answer.{partOf}
 use Rattle.code.specs.Thunk.{adjustor}
 use Rattle.code.proofs.thunk.parse_adjustor.Statement.{statement}
 use Rattle.code.proofs.thunk.parse_adjustor.Tie as tie
-
-parse-u16-requires : tie.Need-parse-u16-requires
-parse-u16-requires c κs = search needs
-
-enum-known-delta : tie.Need-enum-known-delta
-enum-known-delta c = search needs
-
-parse-cstring-requires : tie.Need-parse-cstring-requires
-parse-cstring-requires c κs = search needs
-
-enum-known-target : tie.Need-enum-known-target
-enum-known-target c = search needs
-
-enum-known-e : tie.Need-enum-known-e
-enum-known-e c = search needs
-
-enum-known-e-2 : tie.Need-enum-known-e-2
-enum-known-e-2 c = search needs
 
 returns : tie.Need-returns
 unfolding adjustor
@@ -57,12 +39,12 @@ pub parse-adjustor-spec : {M : Type 1} → statement M
 parse-adjustor-spec =
     tie.close
     (tie.spec
-    parse-u16-requires
-    enum-known-delta
-    parse-cstring-requires
-    enum-known-target
-    enum-known-e
-    enum-known-e-2
+    (λ c κs. search needs)
+    (λ c. search needs)
+    (λ c κs. search needs)
+    (λ c. search needs)
+    (λ c. search needs)
+    (λ c. search needs)
     returns
     returns-2
     returns-3)

@@ -1,4 +1,4 @@
--- `thunks::parse_thunk` meets its contract.
+-- `code::thunk::parse_thunk` meets its contract.
 -- Assumes nothing.
 use borrow.Author.Needs.{needs}
 use mathlib.Core.Path.{sym, ap, _∙_}
@@ -11,45 +11,6 @@ use Rattle.code.proofs.thunk.parse_thunk.Tie as tie
 returns : tie.Need-returns
 returns c = thunk-short _ _ (c .if1 .taken)
 
-parse-symbol-name-requires : tie.Need-parse-symbol-name-requires
-parse-symbol-name-requires c κs = search needs
-
-enum-known-name : tie.Need-enum-known-name
-enum-known-name c = search needs
-
-u8-at-requires : tie.Need-u8-at-requires
-u8-at-requires c κs = search needs
-
-parse-thunk-kind-requires : tie.Need-parse-thunk-kind-requires
-parse-thunk-kind-requires c κs = search needs
-
-enum-known-variant : tie.Need-enum-known-variant
-enum-known-variant c = search needs
-
-u32-at-requires : tie.Need-u32-at-requires
-u32-at-requires c κs = search needs
-
-index-of-requires : tie.Need-index-of-requires
-index-of-requires c κs = search needs
-
-u32-at-requires-2 : tie.Need-u32-at-requires-2
-u32-at-requires-2 c κs = search needs
-
-u32-at-requires-3 : tie.Need-u32-at-requires-3
-u32-at-requires-3 c κs = search needs
-
-index-of-requires-2 : tie.Need-index-of-requires-2
-index-of-requires-2 c κs = search needs
-
-u32-at-requires-4 : tie.Need-u32-at-requires-4
-u32-at-requires-4 c κs = search needs
-
-u16-at-requires : tie.Need-u16-at-requires
-u16-at-requires c κs = search needs
-
-u16-at-requires-2 : tie.Need-u16-at-requires-2
-u16-at-requires-2 c κs = search needs
-
 returns-2 : tie.Need-returns-2
 returns-2 c =
     let a = c .before .before .before .before in
@@ -60,18 +21,12 @@ returns-2 c =
     rw (c .u16-at2 .ensures, c .before .u16-at .ensures, c .before .before .u32-at4 .ensures, c .before .before .before .index-of2 .ensures, a .u32-at3 .ensures, a .before .u32-at2 .ensures, a .before .before .index-of .ensures, a .before .before .before .u32-at .ensures)
     (thunk-value _ _ (p .before .if1 .left) (sym (ap partOf (n .name .given .1)) ∙ p .parse-symbol-name .ensures) (rw (k .before .u8-at .ensures) at (sym (ap thunkKindOf (v .variant .given .1)) ∙ k .parse-thunk-kind .ensures)))
 
-enum-known-e : tie.Need-enum-known-e
-enum-known-e c = search needs
-
 returns-3 : tie.Need-returns-3
 returns-3 c =
     let k = c .before .before .before in
     let n = k .before .before .before in
     let p = n .before .before in
     thunk-variant-refused _ _ (p .before .if1 .left) (sym (ap partOf (n .name .given .1)) ∙ p .parse-symbol-name .ensures) (rw (k .before .u8-at .ensures) at (sym (ap thunkKindOf (c .before .e .given .1)) ∙ k .parse-thunk-kind .ensures))
-
-enum-known-e-2 : tie.Need-enum-known-e-2
-enum-known-e-2 c = search needs
 
 returns-4 : tie.Need-returns-4
 returns-4 c =
@@ -83,21 +38,21 @@ parse-thunk-spec =
     tie.close
     (tie.spec
     returns
-    parse-symbol-name-requires
-    enum-known-name
-    u8-at-requires
-    parse-thunk-kind-requires
-    enum-known-variant
-    u32-at-requires
-    index-of-requires
-    u32-at-requires-2
-    u32-at-requires-3
-    index-of-requires-2
-    u32-at-requires-4
-    u16-at-requires
-    u16-at-requires-2
+    (λ c κs. search needs)
+    (λ c. search needs)
+    (λ c κs. search needs)
+    (λ c κs. search needs)
+    (λ c. search needs)
+    (λ c κs. search needs)
+    (λ c κs. search needs)
+    (λ c κs. search needs)
+    (λ c κs. search needs)
+    (λ c κs. search needs)
+    (λ c κs. search needs)
+    (λ c κs. search needs)
+    (λ c κs. search needs)
     returns-2
-    enum-known-e
+    (λ c. search needs)
     returns-3
-    enum-known-e-2
+    (λ c. search needs)
     returns-4)

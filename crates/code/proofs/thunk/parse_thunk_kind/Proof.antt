@@ -1,26 +1,14 @@
--- `thunks::parse_thunk_kind` meets its contract.
+-- `code::thunk::parse_thunk_kind` meets its contract.
 -- Assumes nothing.
 use borrow.Author.Needs.{needs}
 use mathlib.Core.Path.{sym, ap, _∙_}
 use borrow.Author.Tests.{ne-eqb}
 use Rattle.common.specs.Reader.{uint}
-use Rattle.unsigned.specs.Answer.{u16Of}
+use Rattle.common.specs.Answer.{u16Of}
 use Rattle.common.proofs.Readers.{then-value, then-refused}
 use Rattle.code.specs.Thunk.{thunkKind, vcall}
 use Rattle.code.proofs.thunk.parse_thunk_kind.Statement.{statement}
 use Rattle.code.proofs.thunk.parse_thunk_kind.Tie as tie
-
-parse-adjustor-requires : tie.Need-parse-adjustor-requires
-parse-adjustor-requires c κs = search needs
-
-parse-u16-requires : tie.Need-parse-u16-requires
-parse-u16-requires c κs = search needs
-
-enum-known-entry : tie.Need-enum-known-entry
-enum-known-entry c = search needs
-
-enum-known-e : tie.Need-enum-known-e
-enum-known-e c = search needs
 
 returns : tie.Need-returns
 unfolding thunkKind
@@ -61,10 +49,10 @@ pub parse-thunk-kind-spec : {M : Type 1} → statement M
 parse-thunk-kind-spec =
     tie.close
     (tie.spec
-    parse-adjustor-requires
-    parse-u16-requires
-    enum-known-entry
-    enum-known-e
+    (λ c κs. search needs)
+    (λ c κs. search needs)
+    (λ c. search needs)
+    (λ c. search needs)
     returns
     returns-2
     returns-3

@@ -1,4 +1,4 @@
--- `compile_flags::compile2` meets its contract.
+-- `compiland::compile::compile2` meets its contract.
 -- Assumes nothing.
 use borrow.Author.Needs.{needs}
 use Rattle.compiland.proofs.compile.compile2.Statement.{statement}

@@ -1,4 +1,4 @@
--- `compile_flags::compile3` meets its contract.
+-- `compiland::compile::compile3` meets its contract.
 -- Assumes nothing.
 use borrow.Author.Needs.{needs}
 use Rattle.compiland.proofs.compile.compile3.Statement.{statement}

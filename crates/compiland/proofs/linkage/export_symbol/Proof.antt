@@ -1,4 +1,4 @@
--- `linkage::export_symbol` meets its contract.
+-- `compiland::linkage::export_symbol` meets its contract.
 -- Assumes nothing.
 use borrow.Author.Needs.{needs}
 use Rattle.compiland.proofs.linkage.export_symbol.Statement.{statement}

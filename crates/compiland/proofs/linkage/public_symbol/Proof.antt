@@ -1,4 +1,4 @@
--- `linkage::public_symbol` meets its contract.
+-- `compiland::linkage::public_symbol` meets its contract.
 -- Assumes nothing.
 use borrow.Author.Needs.{needs}
 use Rattle.compiland.proofs.linkage.public_symbol.Statement.{statement}

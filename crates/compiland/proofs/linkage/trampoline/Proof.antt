@@ -1,4 +1,4 @@
--- `linkage::trampoline` meets its contract.
+-- `compiland::linkage::trampoline` meets its contract.
 -- Assumes nothing.
 use borrow.Author.Needs.{needs}
 use Rattle.compiland.proofs.linkage.trampoline.Statement.{statement}

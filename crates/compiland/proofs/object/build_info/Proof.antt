@@ -1,4 +1,4 @@
--- `modules::build_info` meets its contract.
+-- `compiland::object::build_info` meets its contract.
 -- Assumes nothing.
 use borrow.Author.Needs.{needs}
 use Rattle.compiland.proofs.object.build_info.Statement.{statement}

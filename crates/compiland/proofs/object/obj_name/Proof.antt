@@ -1,4 +1,4 @@
--- `modules::obj_name` meets its contract.
+-- `compiland::object::obj_name` meets its contract.
 -- Assumes nothing.
 use borrow.Author.Needs.{needs}
 use Rattle.compiland.proofs.object.obj_name.Statement.{statement}

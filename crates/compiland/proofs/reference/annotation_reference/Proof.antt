@@ -1,4 +1,4 @@
--- `references::annotation_reference` meets its contract.
+-- `compiland::reference::annotation_reference` meets its contract.
 -- Assumes nothing.
 use borrow.Author.Needs.{needs}
 use Rattle.compiland.proofs.reference.annotation_reference.Statement.{statement}

@@ -1,4 +1,4 @@
--- `references::data_reference` meets its contract.
+-- `compiland::reference::data_reference` meets its contract.
 -- Assumes nothing.
 use borrow.Author.Needs.{needs}
 use Rattle.compiland.proofs.reference.data_reference.Statement.{statement}

@@ -1,4 +1,4 @@
--- `references::parse_optional_name` meets its contract.
+-- `compiland::reference::parse_optional_name` meets its contract.
 -- Assumes nothing.
 use borrow.Author.Needs.{needs}
 use mathlib.Core.Path.{sym, ap, _∙_}
@@ -13,15 +13,6 @@ returns c = sym (behind-short _ 12 _ (c .if1 .taken))
 
 returns-2 : tie.Need-returns-2
 returns-2 c = none-below _ _ _ (c .if2 .taken) ∙ sym (behind-there _ 12 _ (c .before .if1 .left))
-
-parse-cstring-requires : tie.Need-parse-cstring-requires
-parse-cstring-requires c κs = search needs
-
-enum-known-name : tie.Need-enum-known-name
-enum-known-name c = search needs
-
-enum-known-e : tie.Need-enum-known-e
-enum-known-e c = search needs
 
 returns-3 : tie.Need-returns-3
 returns-3 c =
@@ -42,8 +33,8 @@ parse-optional-name-spec =
     (tie.spec
     returns
     returns-2
-    parse-cstring-requires
-    enum-known-name
-    enum-known-e
+    (λ c κs. search needs)
+    (λ c. search needs)
+    (λ c. search needs)
     returns-3
     returns-4)

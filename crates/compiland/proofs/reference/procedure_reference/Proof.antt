@@ -1,4 +1,4 @@
--- `references::procedure_reference` meets its contract.
+-- `compiland::reference::procedure_reference` meets its contract.
 -- Assumes nothing.
 use borrow.Author.Needs.{needs}
 use Rattle.compiland.proofs.reference.procedure_reference.Statement.{statement}

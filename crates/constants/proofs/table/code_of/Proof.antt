@@ -9,15 +9,6 @@ use Rattle.constants.proofs.Codes.{in-table, above}
 use Rattle.constants.proofs.table.code_of.Statement.{statement}
 use Rattle.constants.proofs.table.code_of.Tie as tie
 
-low-code-requires : tie.Need-low-code-requires
-low-code-requires c κs = search needs
-
-returns : tie.Need-returns
-returns c = search needs
-
-row-requires : tie.Need-row-requires
-row-requires c κs = search needs
-
 cast-result : tie.Need-cast-result
 cast-result c = let m : (c .before .before .before .args .kind - 0x1000) % 8 < 8 = mod-lt (c .before .before .before .args .kind - 0x1000) (lit< tt) in omega arith
 
@@ -40,9 +31,9 @@ pub code-of-spec : {M : Type 1} → statement M
 code-of-spec =
     tie.close
     (tie.spec
-    low-code-requires
-    returns
-    row-requires
+    (λ c κs. search needs)
+    (λ c. search needs)
+    (λ c κs. search needs)
     cast-result
     mul-result
     cast-result-2

@@ -1,4 +1,4 @@
--- `locals::local` meets its contract.
+-- `data::local::local` meets its contract.
 -- Assumes nothing.
 use borrow.Author.Needs.{needs}
 use Rattle.data.proofs.local.local.Statement.{statement}

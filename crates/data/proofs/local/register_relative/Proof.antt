@@ -1,4 +1,4 @@
--- `locals::register_relative` meets its contract.
+-- `data::local::register_relative` meets its contract.
 -- Assumes nothing.
 use borrow.Author.Needs.{needs}
 use mir.Syntax.{w32}

@@ -1,4 +1,4 @@
--- `storage::data_item` meets its contract.
+-- `data::storage::data_item` meets its contract.
 -- Assumes nothing.
 use borrow.Author.Needs.{needs}
 use Rattle.data.proofs.storage.data_item.Statement.{statement}

@@ -1,4 +1,4 @@
--- `storage::thread_storage` meets its contract.
+-- `data::storage::thread_storage` meets its contract.
 -- Assumes nothing.
 use borrow.Author.Needs.{needs}
 use Rattle.data.proofs.storage.thread_storage.Statement.{statement}

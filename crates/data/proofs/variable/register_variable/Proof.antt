@@ -1,4 +1,4 @@
--- `variables::register_variable` meets its contract.
+-- `data::variable::register_variable` meets its contract.
 -- Assumes nothing.
 use borrow.Author.Needs.{needs}
 use Rattle.data.proofs.variable.register_variable.Statement.{statement}

@@ -1,4 +1,4 @@
--- `variables::user_defined_type` meets its contract.
+-- `data::variable::user_defined_type` meets its contract.
 -- Assumes nothing.
 use borrow.Author.Needs.{needs}
 use Rattle.data.proofs.variable.user_defined_type.Statement.{statement}

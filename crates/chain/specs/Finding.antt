@@ -1,0 +1,44 @@
+-- What the walk finder and the jump finder answer (document 01, "Walk finder", "Jump finder" and the chains).
+use Prim.Native.Nat.{ℕ}
+use mathlib.Core.List.{List, [], _∷_}
+use lib.ListN.{length}
+use Rattle.common.specs.Reader.{refusal}
+use Rattle.common.specs.declared.Refusal.{Refusal}
+use Rattle.iter.specs.Reading.{Rec}
+use Rattle.chain.specs.Chain.{chainOf}
+use Rattle.chain.specs.declared.Chain.{Chain}
+use Rattle.chain.specs.declared.finding.Outcome.{Outcome}
+use Rattle.chain.specs.declared.finding.Outcome.the-variants.{Answer, Refused}
+use Rattle.chain.specs.declared.finding.Finding.{Finding}
+
+-- How a walk ends: its outcome, the stack, and the records that it visited. A stack lists the open openers, the innermost first.
+pub record Walk : Type 0 where
+  pub out : Outcome
+  pub stack : List ℕ
+  pub visited : List Rec
+
+-- a walk that visits a record first
+abbrev pub seen : Rec → Walk → Walk
+seen r w = record { out = w .out; stack = w .stack; visited = r ∷ w .visited }
+
+-- a walk that ends here with a refusal; one of the finder's own carries no position
+abbrev pub refuses : Refusal → Walk
+refuses e = record { out = Refused e; stack = []; visited = [] }
+
+abbrev pub stops : ℕ → Walk
+stops number = refuses (refusal number 0 0)
+
+abbrev pub foundBy : Chain → ℕ → Finding
+foundBy chain read = record { out = Answer; chain = chain; read = read }
+
+-- A refusal carries no more: the chain is empty and the count 0.
+unfoldable pub refusedBy : Refusal → Finding
+refusedBy e = record { out = Refused e; chain = chainOf []; read = 0 }
+
+-- A walk that answers gives the chain of its stack, and the number of records read, which is the length of the list of visited ones.
+abbrev pub answerOf : Outcome → List ℕ → ℕ → Finding
+answerOf Answer stack read = foundBy (chainOf stack) read
+answerOf (Refused e) stack read = refusedBy e
+
+abbrev pub findingOf : Walk → Finding
+findingOf w = answerOf (w .out) (w .stack) (length (w .visited))

@@ -1,0 +1,71 @@
+// What the nesting check does at one record, and the innermost of the open scopes: the loop of crate check_nesting does as it says.
+ghost use mathlib.Core.Path.{_≡_};
+ghost use Rattle.constants.specs.declared.Role.the-variants.{Opens};
+ghost use Rattle.constants.specs.Raw.{nestingRoleOf};
+ghost use Rattle.links.specs.Links.{linksOf};
+ghost use Rattle.check_nesting.specs.Act.{topAt, actOf, openOf};
+use constants::Role;
+use links::Links;
+
+// What the check does with a record: an opener comes with its end field, a refusal with its number.
+pub enum Act {
+    Stay,
+    Push(u32),
+    Pop,
+    Refused(u8),
+}
+
+// The act at a record, with so many openers open and their indexes and end fields. The innermost is looked at only where the record
+// opens or closes a scope.
+pub fn act_at(rec: &[u8], index: usize, opens: &[u32; 64], ends: &[u32; 64], depth: usize) -> Act
+    ensures { λ r. ⌜ r ≡ actOf (now (rec .entry)) index depth (topAt (now (opens .entry)) depth) (topAt (now (ends .entry)) depth) ⌝ }
+{
+    match constants::kind::nesting_role(rec) {
+        Role::Opens => return open_at(rec, index, depth, innermost(opens, depth)),
+        Role::Closes => {
+            if depth == 0 {
+                return Act::Refused(10);
+            }
+            if innermost(ends, depth) as usize != index {
+                return Act::Refused(11);
+            }
+            return Act::Pop;
+        }
+        Role::Neither => return Act::Stay,
+    }
+}
+
+fn open_at(rec: &[u8], index: usize, depth: usize, inner: u32) -> Act
+    requires { ⌜ nestingRoleOf (now rec) ≡ Opens ⌝ }
+    ensures { λ r. ⌜ r ≡ openOf (linksOf (now (rec .entry))) index depth inner ⌝ }
+{
+    match links::links_of(rec) {
+        Links::Unread => return Act::Refused(6),
+        Links::Read { parent, end } => {
+            if index == 0 {
+                return Act::Refused(7);
+            }
+            if parent != inner {
+                return Act::Refused(8);
+            }
+            if 64 <= depth {
+                return Act::Refused(9);
+            }
+            return Act::Push(end);
+        }
+    }
+}
+
+// The last of the first so many places, 0 if none.
+pub fn innermost(at: &[u32; 64], depth: usize) -> u32
+    ensures { λ r. ⌜ r ≡ topAt (now (at .entry)) depth ⌝ }
+{
+    if depth == 0 {
+        return 0;
+    }
+    let last = depth - 1;
+    if 64 <= last {
+        return 0;
+    }
+    at[last]
+}

@@ -1,0 +1,41 @@
+-- The opener that a climb stands at (document 01, "Climb finder").
+use Prim.Native.Nat.{ℕ}
+use mathlib.Core.List.{List}
+use mathlib.Core.Bool.{cond}
+use lib.ListN.{take, drop}
+use lib.Dec.{eqb}
+use Rattle.common.specs.Reader.{refusal}
+use Rattle.constants.specs.declared.Role.{Role}
+use Rattle.constants.specs.declared.Role.the-variants.{Neither, Opens, Closes}
+use Rattle.iter.specs.Step.{stepOf}
+use Rattle.iter.specs.declared.Next.{Next}
+use Rattle.iter.specs.declared.Next.the-variants as N
+use Rattle.constants.specs.Raw.{nestingRoleOf}
+use Rattle.links.specs.Links.{linksOf}
+use Rattle.links.specs.declared.Links.{Links}
+use Rattle.links.specs.declared.Links.the-variants as K
+use Rattle.climb.specs.declared.opener.Opener.{Opener}
+use Rattle.climb.specs.declared.opener.Opener.the-variants as O
+
+-- The parent field of the opener at a position. Step's refusals; 14 if no record is yielded at exactly that position or it is no
+-- opener; 13 if decode refuses it.
+abbrev pub openerRefused : ℕ → Opener
+openerRefused number = O.Refused (refusal number 0 0)
+
+abbrev pub openerBy : Links → Opener
+openerBy K.Unread = openerRefused 13
+openerBy (K.Read parent end) = O.Parent parent
+
+abbrev pub openerIn : List ℕ → Role → Opener
+openerIn bytes Opens = openerBy (linksOf bytes)
+openerIn bytes Closes = openerRefused 14
+openerIn bytes Neither = openerRefused 14
+
+abbrev pub openerOn : List ℕ → ℕ → Next → Opener
+openerOn s at (N.End p) = openerRefused 14
+openerOn s at (N.Refused e) = O.Refused e
+openerOn s at (N.Record index start len next) =
+    cond (eqb index at) (openerIn (take len (drop start s)) (nestingRoleOf (take len (drop start s)))) (openerRefused 14)
+
+unfoldable pub openerOf : List ℕ → ℕ → Opener
+openerOf s at = openerOn s at (stepOf s at)

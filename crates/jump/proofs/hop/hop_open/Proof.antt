@@ -1,0 +1,36 @@
+-- `jump::hop::hop_open` meets its contract.
+-- Assumes nothing.
+use borrow.Author.Needs.{needs}
+use mathlib.Core.Path.{sym, _∙_}
+use borrow.Author.Tests.{le-ltb, lt-ltb, le-leb, lt-leb}
+use Rattle.jump.proofs.hop.hop_open.Statement.{statement}
+use Rattle.jump.proofs.hop.hop_open.Tie as tie
+
+returns : tie.Need-returns
+returns c = rw (sym (c .before .before .links-of .ensures) ∙ c .enum-told .given .1)
+
+returns-2 : tie.Need-returns-2
+returns-2 c = rw (sym (c .before .before .before .before .links-of .ensures) ∙ c .before .before .end .given .1, lt-ltb _ _ (c .if1 .taken))
+
+returns-3 : tie.Need-returns-3
+returns-3 c = rw (sym (c .before .before .before .before .before .links-of .ensures) ∙ c .before .before .before .end .given .1, le-ltb _ _ (c .before .if1 .left), lt-ltb _ _ (c .if2 .taken))
+
+returns-4 : tie.Need-returns-4
+returns-4 c = rw (sym (c .before .before .before .before .before .before .links-of .ensures) ∙ c .before .before .before .before .end .given .1, le-ltb _ _ (c .before .before .if1 .left), le-ltb _ _ (c .before .if2 .left), le-leb _ _ (c .if3 .taken))
+
+returns-5 : tie.Need-returns-5
+returns-5 c = rw (sym (c .before .before .before .before .before .before .links-of .ensures) ∙ c .before .before .before .before .end .given .1, le-ltb _ _ (c .before .before .if1 .left), le-ltb _ _ (c .before .if2 .left), lt-leb _ _ (c .if3 .left))
+
+pub hop-open-spec : {M : Type 1} → statement M
+hop-open-spec =
+    tie.close
+    (tie.spec
+    (λ c κs. search needs)
+    (λ c. search needs)
+    returns
+    (λ c. search needs)
+    (λ c. search needs)
+    returns-2
+    returns-3
+    returns-4
+    returns-5)

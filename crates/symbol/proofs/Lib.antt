@@ -1,0 +1,5 @@
+pub mod Classes
+pub mod Fields
+pub mod Rows
+pub mod Lists
+pub mod Decoding

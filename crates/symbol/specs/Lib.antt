@@ -1,0 +1,5 @@
+pub mod Behind
+pub mod Name
+pub mod Entry
+pub mod Decode
+pub mod Bytes
