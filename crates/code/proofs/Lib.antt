@@ -1,2 +1,2 @@
+pub mod Invocations
 pub mod Rows
-pub mod ThunksRows

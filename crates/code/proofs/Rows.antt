@@ -1,43 +1,63 @@
--- The layouts as rows of widths.
+-- The layouts as rows of fields: where they end is what the decoders test.
 -- Assumes nothing.
 use Prim.Native.Nat.{ℕ}
-use mathlib.Core.Path.{_≡_, refl}
-use mathlib.Core.List.{List, [], _∷_}
-use lib.ListN.{length}
-use Rattle.common.specs.Reader.{value}
-use Rattle.common.proofs.Rows.{tailed}
-use Rattle.names.specs.declared.Part.{Part}
-use Rattle.records.specs.declared.OptionU32.the-variants.{None, Some}
-use Rattle.records.specs.declared.SymbolData.{SymbolData}
-use Rattle.names.specs.Name.{symbolName}
-use Rattle.code.specs.Procedure.{procedureRow, procedureOf, procedure}
-use Rattle.code.specs.Inline.{left, rest, inlineSiteOf, plainSite, countedSite}
+use mathlib.Core.Path.{refl}
+use mathlib.Core.List.{List}
+use Rattle.common.proofs.Rows.{Row, field, last, uint-fixed}
+use Rattle.records.proofs.Fields.{index-fixed, place-fixed}
+use Rattle.code.specs.Procedure.{procedure, label}
+use Rattle.code.specs.Block.{block, separatedCode}
+use Rattle.code.specs.Inline.{inlineSite}
+use Rattle.code.specs.Thunk.{thunk}
 
--- all that is left
-pub rest-is : (s : List ℕ) (at : ℕ) → value (left s at) (length s) ≡ rest s at
-unfolding rest
-rest-is s at = refl
+module _ (kind : ℕ) (s : List ℕ) where
+  unfoldable pub procedure-row : Row (procedure kind) 2 37 s
+  unfolding procedure
+  procedure-row =
+      field _ index-fixed refl
+      (field _ (uint-fixed 4) refl
+      (field _ index-fixed refl
+      (field _ (uint-fixed 4) refl
+      (field _ (uint-fixed 4) refl
+      (field _ (uint-fixed 4) refl
+      (field _ (uint-fixed 4) refl
+      (field _ place-fixed refl
+      (last _ (uint-fixed 1)))))))))
 
-abbrev pub plainRow : List ℕ
-plainRow = 4 ∷ 4 ∷ 4 ∷ []
+  unfoldable pub label-row : Row (label kind) 2 9 s
+  unfolding label
+  label-row = field _ place-fixed refl (last _ (uint-fixed 1))
 
-abbrev pub plainSiteOf : ℕ → ℕ → ℕ → Part → SymbolData
-plainSiteOf parent end inlinee = inlineSiteOf parent end inlinee None
+  unfoldable pub block-row : Row (block kind) 2 20 s
+  unfolding block
+  block-row =
+      field _ (uint-fixed 4) refl
+      (field _ (uint-fixed 4) refl
+      (field _ (uint-fixed 4) refl
+      (last _ place-fixed)))
 
-pub plain-row : (s : List ℕ) (at : ℕ) → tailed plainRow rest plainSiteOf s at ≡ plainSite s at
-unfolding tailed plainSite
-plain-row s at = refl
+  unfoldable pub inline-site-row : Row (inlineSite kind) 2 14 s
+  unfolding inlineSite
+  inline-site-row = field _ index-fixed refl (field _ (uint-fixed 4) refl (last _ (uint-fixed 4)))
 
-abbrev pub countedRow : List ℕ
-countedRow = 4 ∷ 4 ∷ 4 ∷ 4 ∷ []
+  unfoldable pub thunk-row : Row (thunk kind) 2 23 s
+  unfolding thunk
+  thunk-row =
+      field _ index-fixed refl
+      (field _ (uint-fixed 4) refl
+      (field _ index-fixed refl
+      (field _ place-fixed refl
+      (field _ (uint-fixed 2) refl
+      (last _ (uint-fixed 1))))))
 
-abbrev pub countedSiteOf : ℕ → ℕ → ℕ → ℕ → Part → SymbolData
-countedSiteOf parent end inlinee invocations = inlineSiteOf parent end inlinee (Some invocations)
-
-pub counted-row : (s : List ℕ) (at : ℕ) → tailed countedRow rest countedSiteOf s at ≡ countedSite s at
-unfolding tailed countedSite
-counted-row s at = refl
-
-pub procedure-row : (kind : ℕ) (s : List ℕ) (at : ℕ) → tailed procedureRow (symbolName kind) (procedureOf kind) s at ≡ procedure kind s at
-unfolding procedure tailed
-procedure-row kind s at = refl
+unfoldable pub separated-code-row : (s : List ℕ) → Row separatedCode 2 30 s
+unfolding separatedCode
+separated-code-row s =
+    field _ (uint-fixed 4) refl
+    (field _ (uint-fixed 4) refl
+    (field _ (uint-fixed 4) refl
+    (field _ (uint-fixed 4) refl
+    (field _ (uint-fixed 4) refl
+    (field _ (uint-fixed 4) refl
+    (field _ (uint-fixed 2) refl
+    (last _ (uint-fixed 2))))))))

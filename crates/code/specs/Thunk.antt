@@ -4,8 +4,7 @@ use mathlib.Core.Bool.{cond}
 use lib.Dec.{eqb}
 use Rattle.common.specs.Reader.{Reader, _>>=_, done, u8, u16, u32}
 use Rattle.names.specs.Name.{cstring, symbolName}
-use Rattle.names.specs.declared.Part.{Part}
-use Rattle.records.specs.Field.{indexOf, place}
+use Rattle.records.specs.Field.{index, place}
 use Rattle.records.specs.declared.ThunkKind.{ThunkKind}
 use Rattle.records.specs.declared.ThunkKind.the-variants.{NoType, Adjustor, VCall, PCode, Load, Unknown}
 use Rattle.records.specs.declared.SymbolData.{SymbolData}
@@ -35,28 +34,16 @@ thunkKind code =
     (done (Unknown code))))))
 
 -- THUNKSYM32
-abbrev pub thunkOf : ℕ → ℕ → ℕ → ℕ → ℕ → ℕ → Part → ThunkKind → SymbolData
-thunkOf parent end next offset section len name variant =
-    Thunk
-    (record {
-      parent = indexOf parent;
-      end = end;
-      next = indexOf next;
-      offset = place offset section;
-      len = len;
-      kind = variant;
-      name = name;
-    })
-
 unfoldable pub thunk : ℕ → Reader SymbolData
 thunk kind = do
-  parent ← u32
+  parent ← index
   end ← u32
-  next ← u32
-  offset ← u32
-  section ← u16
+  next ← index
+  offset ← place
   len ← u16
   code ← u8
   name ← symbolName kind
   variant ← thunkKind code
-  done (thunkOf parent end next offset section len name variant)
+  done
+      (Thunk
+      (record { parent = parent; end = end; next = next; offset = offset; len = len; kind = variant; name = name }))

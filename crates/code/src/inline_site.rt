@@ -1,16 +1,10 @@
-// Inline sites (pdb's src/symbol/mod.rs).
-//
-// A decoder is given the whole record, kind first, so that its fields start at position 2. It tests the room of the fields
-// once, then reads them.
+// Inline sites: where a procedure's body stands in place of a call.
 ghost use mathlib.Core.Path.{_≡_};
-ghost use mathlib.Core.List.{[], _∷_};
-ghost use Prim.Native.Nat.{_≤_};
-ghost use lib.ListN.{length};
-ghost use Rattle.common.specs.Row.{filled};
-ghost use Rattle.records.specs.declared.SymbolData.the-variants.{InlineSite};
 ghost use Rattle.records.specs.Answer.{decodedOf};
-ghost use Rattle.code.specs.Inline.{left, inlineSiteOf, plainSite, countedSite, inlineSite};
+ghost use Rattle.code.specs.Inline.{invocations, inlineSite};
+ghost use Rattle.code.specs.Answer.{invocationsOf};
 use common::Refusal;
+use common::unsigned::ParsedU32;
 use constants::S_INLINESITE2;
 use names::Part;
 use records::Decoded;
@@ -18,60 +12,47 @@ use records::InlineSiteSymbol;
 use records::OptionU32;
 use records::SymbolData;
 
-// Where the annotations stand: behind the kind and the fields.
-pub const PLAIN_ANNOTATIONS: usize = 14;
+// Where the count of invocations stands, if there is one; the annotations come behind it.
+pub const INVOCATIONS: usize = 14;
 
-pub const COUNTED_ANNOTATIONS: usize = 18;
-
-// The fields of an inline site whose annotations start at a position: all that is left from there on.
-fn inline_site(s: &[u8], invocations: OptionU32, start: usize) -> InlineSiteSymbol
-    requires { ⌜ 14 ≤ length (now s) ⌝ }
-    requires { ⌜ start ≤ length (now s) ⌝ }
-    ensures { λ r. ⌜ InlineSite r ≡ filled (4 ∷ 4 ∷ 4 ∷ []) inlineSiteOf (now (s .entry)) 2 invocations (left (now (s .entry)) start) ⌝ }
-{
-    InlineSiteSymbol {
-        parent: records::index_of(common::u32_at(s, 2)),
-        end: common::u32_at(s, 6),
-        inlinee: common::u32_at(s, 10),
-        invocations,
-        annotations: Part {
-            start,
-            len: s.len() - start,
-        },
-    }
+// What reading the count of invocations answers: the count or none and the position after it, or the refusal.
+pub enum ParsedInvocations {
+    Value(OptionU32, usize),
+    Refused(Refusal),
 }
 
-// An inline site without a count of its invocations.
-fn parse_plain_site(s: &[u8]) -> Decoded
-    ensures { λ r. ⌜ decodedOf r ≡ plainSite (now (s .entry)) 2 ⌝ }
+pub fn parse_invocations(s: &[u8], at: usize, kind: u16) -> ParsedInvocations
+    ensures { λ r. ⌜ invocationsOf r ≡ invocations kind (now (s .entry)) at ⌝ }
 {
-    if s.len() < PLAIN_ANNOTATIONS {
-        return Decoded::Refused(Refusal::RUNS_OUT);
+    if kind != S_INLINESITE2 {
+        return ParsedInvocations::Value(OptionU32::None, at);
     }
-    let data = inline_site(s, OptionU32::None, PLAIN_ANNOTATIONS);
-    Decoded::Record(SymbolData::InlineSite(data), s.len())
-}
-
-// An inline site with a count of its invocations.
-fn parse_counted_site(s: &[u8]) -> Decoded
-    ensures { λ r. ⌜ decodedOf r ≡ countedSite (now (s .entry)) 2 ⌝ }
-{
-    if s.len() < COUNTED_ANNOTATIONS {
-        return Decoded::Refused(Refusal::RUNS_OUT);
+    match common::unsigned::parse_u32(s, at) {
+        ParsedU32::Value(count, next) => { ParsedInvocations::Value(OptionU32::Some(count), next) }
+        ParsedU32::Refused(e) => ParsedInvocations::Refused(e),
     }
-    let data = inline_site(
-        s,
-        OptionU32::Some(common::u32_at(s, 14)),
-        COUNTED_ANNOTATIONS,
-    );
-    Decoded::Record(SymbolData::InlineSite(data), s.len())
 }
 
 pub fn parse_inline_site(s: &[u8], kind: u16) -> Decoded
     ensures { λ r. ⌜ decodedOf r ≡ inlineSite kind (now (s .entry)) 2 ⌝ }
 {
-    if kind == S_INLINESITE2 {
-        return parse_counted_site(s);
+    if s.len() < INVOCATIONS {
+        return Decoded::Refused(Refusal::RUNS_OUT);
     }
-    parse_plain_site(s)
+    match parse_invocations(s, INVOCATIONS, kind) {
+        ParsedInvocations::Value(invocations, start) => {
+            let data = InlineSiteSymbol {
+                parent: records::field::index_at(s, 2),
+                end: common::u32_at(s, 6),
+                inlinee: common::u32_at(s, 10),
+                invocations,
+                annotations: Part {
+                    start,
+                    len: s.len() - start,
+                },
+            };
+            return Decoded::Record(SymbolData::InlineSite(data), s.len());
+        }
+        ParsedInvocations::Refused(e) => return Decoded::Refused(e),
+    }
 }

@@ -1,8 +1,4 @@
-// Thunks (pdb's src/symbol/mod.rs).
-//
-// A decoder is given the whole record, kind first, so that its fields start at position 2. It tests the room of the fields
-// once, then reads them.
-// The arms of a match return: where they met, one more `Decoded` would stand at every step of the proof.
+// Thunks: code that only leads to other code.
 ghost use mathlib.Core.Path.{_≡_};
 ghost use Rattle.records.specs.Answer.{decodedOf};
 ghost use Rattle.code.specs.Thunk.{adjustor, thunkKind, thunk};
@@ -11,14 +7,15 @@ use common::Refusal;
 use common::unsigned::ParsedU16;
 use names::ParsedPart;
 use records::Decoded;
-use records::SectionOffset;
 use records::SymbolData;
 use records::ThunkAdjustor;
 use records::ThunkKind;
 use records::ThunkSymbol;
 
-// Where the name stands: behind the kind and the fields.
+// Where the name stands, and before it the code of the variant, whose data come behind it.
 pub const THUNK_NAME: usize = 23;
+
+pub const THUNK_VARIANT: usize = 22;
 
 // What reading the data of a thunk's variant answers: the variant and the position after it, or the refusal.
 pub enum ParsedThunkKind {
@@ -66,16 +63,17 @@ pub fn parse_thunk(s: &[u8], kind: u16) -> Decoded
         return Decoded::Refused(Refusal::RUNS_OUT);
     }
     match names::parse_symbol_name(s, THUNK_NAME, kind) {
-        ParsedPart::Value(name, at) => match parse_thunk_kind(s, at, common::u8_at(s, 22)) {
+        ParsedPart::Value(name, at) => match parse_thunk_kind(
+            s,
+            at,
+            common::u8_at(s, THUNK_VARIANT),
+        ) {
             ParsedThunkKind::Value(variant, next) => {
                 let data = ThunkSymbol {
-                    parent: records::index_of(common::u32_at(s, 2)),
+                    parent: records::field::index_at(s, 2),
                     end: common::u32_at(s, 6),
-                    next: records::index_of(common::u32_at(s, 10)),
-                    offset: SectionOffset {
-                        offset: common::u32_at(s, 14),
-                        section: common::u16_at(s, 18),
-                    },
+                    next: records::field::index_at(s, 10),
+                    offset: records::field::place_at(s, 14),
                     len: common::u16_at(s, 20),
                     kind: variant,
                     name,

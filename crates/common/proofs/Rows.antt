@@ -1,136 +1,112 @@
--- Layouts as rows of widths: numbers one after another, then what stands behind them. A layout that is written field by field
--- is such a row by `refl`, and its room is tested once.
+-- Layouts as rows: fields of fixed widths one after another, then what stands behind them. A layout that is written field by field is
+-- such a row, and its room is tested once.
 -- Assumes nothing.
-use Prim.Native.Nat.{ℕ, _+_, _≤_, _<_}
-use mathlib.Core.Path.{_≡_, refl, ap, _∙_, sym}
-use mathlib.Core.List.{List, [], _∷_}
+use Prim.Native.Nat.{ℕ, _+_, _*_, _≤_, _<_}
+use mathlib.Core.Path.{_≡_, refl, ap, sym, _∙_}
+use mathlib.Core.List.{List}
 use mathlib.Core.Bool.{Bool, true, false}
-use native.Mathlib.Nat.{add-zero, add-assoc}
+use native.Mathlib.Nat.{add-assoc}
 use native.Mathlib.Omega.{arith}
-use borrow.Author.Tests.{le-leb, leb-true, le-ltb, lt-ltb, ltb-true, ltb-false}
+use borrow.Author.Tests.{le-leb, lt-leb, leb-true, leb-false}
 use lib.ListN.{length}
-use lib.Dec.{leb, ltb}
-use Rattle.common.specs.Bytes.{le}
-use Rattle.common.specs.Row.{Fields, total, filled, behind}
-use Rattle.common.specs.Reader.{Read, value, refused, runsOut, Reader, done, _>>=_, uint}
+use lib.Dec.{leb}
+use Rattle.common.specs.Bytes.{le, signed}
+use Rattle.common.specs.Reader.{Read, value, refused, runsOut, Reader, done, _>>=_, uint, sint}
 use Rattle.common.specs.declared.Refusal.{Refusal}
 use Rattle.common.proofs.Readers.{uint-value, uint-short, then-value, then-refused}
 
--- a row whose numbers decide what is read behind it
-abbrev pub leading : {A : Type 0} (ws : List ℕ) → Fields ws (Reader A) → Reader A
-leading [] m = m
-leading (w ∷ ws) m = uint w >>= λ x. leading ws (m x)
+-- a reader of n bytes, whatever they hold: it answers `of` them, or runs out
+pub record Fixed {A : Type 0} (m : Reader A) (n : ℕ) (of : List ℕ → ℕ → A) : Type 0 where
+  pub there : (s : List ℕ) (at : ℕ) → at + n ≤ length s → m s at ≡ value (of s at) (at + n)
+  pub short : (s : List ℕ) (at : ℕ) → length s < at + n → m s at ≡ refused runsOut
 
--- the first number of a row is there
-first-there : {A : Type 0} (w : ℕ) (k : ℕ → Reader A) (s : List ℕ) (at : ℕ) → at + w ≤ length s → (uint w >>= k) s at ≡ k (le w s at) s (at + w)
-first-there w k s at h = then-value (uint w) k s at (uint-value w s at (le-leb (at + w) (length s) h))
+pub uint-fixed : (n : ℕ) → Fixed (uint n) n (le n)
+uint-fixed n =
+    record {
+      there = λ s at h. uint-value n s at (le-leb (at + n) (length s) h);
+      short = λ s at h. uint-short n s at (lt-leb (at + n) (length s) h);
+    }
 
--- it runs out, or what stands behind it does
-first-short : {A : Type 0} (w : ℕ) (k : ℕ → Reader A) (s : List ℕ) (at : ℕ) → (at + w ≤ length s → k (le w s at) s (at + w) ≡ refused runsOut) → (uint w >>= k) s at ≡ refused runsOut
-first-short w k s at rest = go (leb (at + w) (length s)) refl
+-- what a value is made into
+pub made-fixed : {A B : Type 0} {m : Reader A} {n : ℕ} {of : List ℕ → ℕ → A} → Fixed m n of → (make : A → B) → Fixed (m >>= λ x. done (make x)) n (λ s at. make (of s at))
+made-fixed {m = m} fixed make =
+    record {
+      there = λ s at h. then-value m (λ x. done (make x)) s at (fixed .there s at h);
+      short = λ s at h. then-refused m (λ x. done (make x)) s at (fixed .short s at h);
+    }
+
+pub sint-fixed : (n : ℕ) → Fixed (sint n) n (λ s at. signed (8 * n) (le n s at))
+unfolding sint
+sint-fixed n = made-fixed (uint-fixed n) (signed (8 * n))
+
+-- one field behind another runs out where either does
+pub either-short : {A B : Type 0} {m : Reader A} {n : ℕ} {of : List ℕ → ℕ → A} → Fixed m n of → (k : A → Reader B) (s : List ℕ) (at : ℕ) → (at + n ≤ length s → k (of s at) s (at + n) ≡ refused runsOut) → (m >>= k) s at ≡ refused runsOut
+either-short {B = B} {m = m} {n = n} {of = of} fixed k s at rest = go (leb (at + n) (length s)) refl
   where
-    go : (b : Bool) → leb (at + w) (length s) ≡ b → (uint w >>= k) s at ≡ refused runsOut
-    go true e = first-there w k s at (leb-true (at + w) (length s) e) ∙ rest (leb-true (at + w) (length s) e)
-    go false e = then-refused (uint w) k s at (uint-short w s at e)
+    go : (b : Bool) → leb (at + n) (length s) ≡ b → (m >>= k) s at ≡ refused runsOut
+    go true e = let h = leb-true (at + n) (length s) e in then-value m k s at (fixed .there s at h) ∙ rest h
+    go false e = then-refused m k s at (fixed .short s at (leb-false (at + n) (length s) e))
 
--- the row is there
-pub leading-reads : {A : Type 0} (ws : List ℕ) (m : Fields ws (Reader A)) (s : List ℕ) (at : ℕ) → at + total ws ≤ length s → leading ws m s at ≡ filled ws m s at s (at + total ws)
-leading-reads [] m s at h = rw add-zero
-leading-reads (w ∷ ws) m s at h =
-    first-there w (λ x. leading ws (m x)) s at (omega arith)
-    ∙ leading-reads ws (m (le w s at)) s (at + w) (omega arith)
-    ∙ ap (λ (to : ℕ). filled ws (m (le w s at)) s (at + w) s to) (add-assoc at w (total ws))
+-- two fields as one
+pub pair-fixed : {A B : Type 0} {m : Reader A} {n n' : ℕ} {of : List ℕ → ℕ → A} {k : A → Reader B} {of' : A → List ℕ → ℕ → B} → Fixed m n of → ((x : A) → Fixed (k x) n' (of' x)) → Fixed (m >>= k) (n + n') (λ s at. of' (of s at) s (at + n))
+pair-fixed {m = m} {n = n} {n' = n'} {of = of} {k = k} {of' = of'} first second =
+    record {
+      there = λ s at h.
+          then-value m k s at (first .there s at (omega arith))
+          ∙ (second (of s at) .there s (at + n) (omega arith)
+          ∙ rw (add-assoc at n n'));
+      short = λ s at h. either-short first k s at (λ r. second (of s at) .short s (at + n) (omega arith));
+    }
 
--- the row runs out
-pub leading-short-within : {A : Type 0} (ws : List ℕ) (m : Fields ws (Reader A)) (s : List ℕ) (at : ℕ) → at ≤ length s → length s < at + total ws → leading ws m s at ≡ refused runsOut
-leading-short-within [] m s at g h = absurd (omega arith)
-leading-short-within (w ∷ ws) m s at g h =
-    first-short w (λ x. leading ws (m x)) s at (λ r. leading-short-within ws (m (le w s at)) s (at + w) r (omega arith))
+-- the fields of m take the bytes from `at` to `to`, and `tail` is what m goes on with behind them
+pub record Row {A : Type 0} (m : Reader A) (at to : ℕ) (s : List ℕ) : Type 0 where
+  pub tail : Reader A
+  pub there : to ≤ length s → m s at ≡ tail s to
+  pub short : length s < to → m s at ≡ refused runsOut
 
-pub leading-short : {A : Type 0} (w : ℕ) (ws : List ℕ) (m : Fields (w ∷ ws) (Reader A)) (s : List ℕ) (at : ℕ) → length s < at + total (w ∷ ws) → leading (w ∷ ws) m s at ≡ refused runsOut
-leading-short w ws m s at h =
-    first-short w (λ x. leading ws (m x)) s at (λ r. leading-short-within ws (m (le w s at)) s (at + w) r (omega arith))
+-- the last field of a row
+abbrev pub last : {A B : Type 0} {m : Reader A} {n : ℕ} {of : List ℕ → ℕ → A} {at : ℕ} {s : List ℕ} (k : A → Reader B) → Fixed m n of → Row (m >>= k) at (at + n) s
+last {m = m} {of = of} {at = at} {s = s} k fixed =
+    record {
+      tail = k (of s at);
+      there = λ h. then-value m k s at (fixed .there s at h);
+      short = λ h. then-refused m k s at (fixed .short s at h);
+    }
 
--- g of what a row is made into
-abbrev mapped : {P Q : Type 0} (ws : List ℕ) → (P → Q) → Fields ws P → Fields ws Q
-mapped [] g f = g f
-mapped (w ∷ ws) g f = λ x. mapped ws g (f x)
+-- a field, and the row behind it
+abbrev pub field : {A B : Type 0} {m : Reader A} {n : ℕ} {of : List ℕ → ℕ → A} {at to : ℕ} {s : List ℕ} (k : A → Reader B) → Fixed m n of → leb (at + n) to ≡ true → Row (k (of s at)) (at + n) to s → Row (m >>= k) at to s
+field {m = m} {n = n} {of = of} {at = at} {to = to} {s = s} k fixed fits row =
+    record {
+      tail = row .tail;
+      there = λ h. then-value m k s at (fixed .there s at (omega (arith, leb-true (at + n) to fits))) ∙ row .there h;
+      short = λ h. either-short fixed k s at (λ r. row .short h);
+    }
 
-mapped-filled : {P Q : Type 0} (ws : List ℕ) (g : P → Q) (f : Fields ws P) (s : List ℕ) (at : ℕ) → filled ws (mapped ws g f) s at ≡ g (filled ws f s at)
-mapped-filled [] g f s at = refl
-mapped-filled (w ∷ ws) g f s at = mapped-filled ws g (f (le w s at)) s (at + w)
+-- a row with one thing behind it, which t reads
+module _ {A B : Type 0} {m : Reader A} {at to : ℕ} {s : List ℕ} (row : Row m at to s) (t : Reader B) (make : B → A) (behind : row .tail ≡ (t >>= λ b. done (make b))) (h : to ≤ length s) where
+  tail-is : m s at ≡ (t >>= λ b. done (make b)) s to
+  tail-is = row .there h ∙ ap (λ (r : Reader A). r s to) behind
 
--- a row, and what m reads behind it; make is handed them all
-unfoldable pub tailed : {A B : Type 0} (ws : List ℕ) → Reader B → Fields ws (B → A) → Reader A
-tailed ws m make = leading ws (mapped ws (λ f. m >>= λ b. done (f b)) make)
+  pub tail-value : {b : B} {next : ℕ} → value b next ≡ t s to → value (make b) next ≡ m s at
+  tail-value e = sym (tail-is ∙ then-value t (λ b. done (make b)) s to (sym e))
 
--- a row with nothing behind it
-unfoldable pub fixed : {A : Type 0} (ws : List ℕ) → Fields ws A → Reader A
-fixed ws make = leading ws (mapped ws done make)
+  pub tail-refused : {e : Refusal} → refused e ≡ t s to → refused e ≡ m s at
+  tail-refused e = sym (tail-is ∙ then-refused t (λ b. done (make b)) s to (sym e))
 
--- the row is there, and what stands behind it was read or refused
-module _ {A B : Type 0} (ws : List ℕ) (m : Reader B) (make : Fields ws (B → A)) (s : List ℕ) (at : ℕ) (h : at + total ws ≤ length s) where
-  tailed-reads : tailed ws m make s at ≡ (m >>= λ b. done (filled ws make s at b)) s (at + total ws)
-  unfolding tailed
-  tailed-reads =
-      leading-reads ws (mapped ws (λ f. m >>= λ b. done (f b)) make) s at h
-      ∙ ap (λ (r : Reader A). r s (at + total ws)) (mapped-filled ws (λ f. m >>= λ b. done (f b)) make s at)
+-- a row with two things behind it, which t and then u read
+module _ {A B C : Type 0} {m : Reader A} {at to : ℕ} {s : List ℕ} (row : Row m at to s) (t : Reader B) (u : Reader C) (make : B → C → A) (behind : row .tail ≡ (t >>= λ b. u >>= λ c. done (make b c))) (h : to ≤ length s) where
+  two-is : m s at ≡ (t >>= λ b. u >>= λ c. done (make b c)) s to
+  two-is = row .there h ∙ ap (λ (r : Reader A). r s to) behind
 
-  pub tailed-value : {b : B} {to : ℕ} → value b to ≡ m s (at + total ws) → value (filled ws make s at b) to ≡ tailed ws m make s at
-  tailed-value e = sym (tailed-reads ∙ then-value m (λ b. done (filled ws make s at b)) s (at + total ws) (sym e))
+  pub first-refused : {e : Refusal} → refused e ≡ t s to → refused e ≡ m s at
+  first-refused e = sym (two-is ∙ then-refused t _ s to (sym e))
 
-  pub tailed-refused : {e : Refusal} → refused e ≡ m s (at + total ws) → refused e ≡ tailed ws m make s at
-  tailed-refused e = sym (tailed-reads ∙ then-refused m (λ b. done (filled ws make s at b)) s (at + total ws) (sym e))
+  module _ {b : B} {mid : ℕ} (p : value b mid ≡ t s to) where
+    second-is : m s at ≡ (u >>= λ c. done (make b c)) s mid
+    second-is = two-is ∙ then-value t _ s to (sym p)
 
-pub fixed-value : {A : Type 0} (ws : List ℕ) (make : Fields ws A) (s : List ℕ) (at : ℕ) → at + total ws ≤ length s → value (filled ws make s at) (at + total ws) ≡ fixed ws make s at
-unfolding fixed
-fixed-value {A} ws make s at h =
-    sym (leading-reads ws (mapped ws done make) s at h ∙ ap (λ (r : Reader A). r s (at + total ws)) (mapped-filled ws done make s at))
+    pub second-refused : {e : Refusal} → refused e ≡ u s mid → refused e ≡ m s at
+    second-refused e = sym (second-is ∙ then-refused u _ s mid (sym e))
 
-tailed-short-within : {A B : Type 0} (ws : List ℕ) (m : Reader B) (make : Fields ws (B → A)) (s : List ℕ) (at : ℕ) → at ≤ length s → length s < at + total ws → tailed ws m make s at ≡ refused runsOut
-unfolding tailed
-tailed-short-within ws m make s at g h = leading-short-within ws _ s at g h
-
-pub tailed-short : {A B : Type 0} (w : ℕ) (ws : List ℕ) (m : Reader B) (make : Fields (w ∷ ws) (B → A)) (s : List ℕ) (at : ℕ) → length s < at + total (w ∷ ws) → refused runsOut ≡ tailed (w ∷ ws) m make s at
-unfolding tailed
-tailed-short w ws m make s at h = sym (leading-short w ws _ s at h)
-
-pub fixed-short-within : {A : Type 0} (ws : List ℕ) (make : Fields ws A) (s : List ℕ) (at : ℕ) → at ≤ length s → length s < at + total ws → fixed ws make s at ≡ refused runsOut
-unfolding fixed
-fixed-short-within ws make s at g h = leading-short-within ws _ s at g h
-
-pub behind-there : {B : Type 0} (m : Reader B) (at : ℕ) (s : List ℕ) → at ≤ length s → behind m at s ≡ m s at
-unfolding behind
-behind-there m at s h = rw (le-ltb (length s) at h)
-
-pub behind-short : {B : Type 0} (m : Reader B) (at : ℕ) (s : List ℕ) → length s < at → behind m at s ≡ refused runsOut
-unfolding behind
-behind-short m at s h = rw (lt-ltb (length s) at h)
-
--- what stands behind fields is read only where they are
-pub behind-room : {B : Type 0} (m : Reader B) (at : ℕ) (s : List ℕ) {b : B} {to : ℕ} → value b to ≡ behind m at s → at ≤ length s
-behind-room {B} m at s {b} {to} e = go (ltb (length s) at) refl
-  where
-    go : (x : Bool) → ltb (length s) at ≡ x → at ≤ length s
-    go true q = let n : value b to ≡ refused runsOut = e ∙ behind-short m at s (ltb-true _ _ q) in absurd (let z : _≡_ {A = ℕ} 0 1 = cc in omega arith)
-    go false q = ltb-false _ _ q
-
--- a row and what m reads behind it, by what is read behind the row
-module _ {A B : Type 0} (ws : List ℕ) (m : Reader B) (make : Fields ws (B → A)) (s : List ℕ) (at : ℕ) where
-  pub behind-value : {b : B} {to : ℕ} → value b to ≡ behind m (at + total ws) s → value (filled ws make s at b) to ≡ tailed ws m make s at
-  behind-value e =
-      let h = behind-room m (at + total ws) s e in
-      tailed-value ws m make s at h (e ∙ behind-there m (at + total ws) s h)
-
-  pub behind-refused : at ≤ length s → {e : Refusal} → refused e ≡ behind m (at + total ws) s → refused e ≡ tailed ws m make s at
-  behind-refused g {e} q = go (ltb (length s) (at + total ws)) refl
-    where
-      go : (x : Bool) → ltb (length s) (at + total ws) ≡ x → refused e ≡ tailed ws m make s at
-      go true r =
-          let h = ltb-true _ _ r in
-          let n : _≡_ {A = Read B} (refused e) (refused runsOut) = q ∙ behind-short m (at + total ws) s h in
-          let same : e ≡ runsOut = cc in
-          ap refused same ∙ sym (tailed-short-within ws m make s at g h)
-      go false r =
-          let h = ltb-false _ _ r in
-          tailed-refused ws m make s at h (q ∙ behind-there m (at + total ws) s h)
+    pub both-value : {c : C} {next : ℕ} → value c next ≡ u s mid → value (make b c) next ≡ m s at
+    both-value e = sym (second-is ∙ then-value u _ s mid (sym e))

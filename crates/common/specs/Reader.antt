@@ -54,3 +54,6 @@ u16 = uint 2
 
 abbrev pub u32 : Reader ℕ
 u32 = uint 4
+
+abbrev pub i32 : Reader ℤ
+i32 = sint 4

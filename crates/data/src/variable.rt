@@ -1,19 +1,10 @@
 // The records of register variables, constants and types.
-//
-// The fields of a record are read where it is long enough for them, kind first, so that they start at position 2. A constant is decoded
-// here whole, since its name stands behind a value whose length varies. The arms of a match return: where they met, one more `Decoded`
-// would stand at every step of the proof.
 ghost use mathlib.Core.Path.{_≡_};
-ghost use Prim.Native.Nat.{_≤_};
-ghost use lib.ListN.{length};
-ghost use Rattle.common.specs.Row.{filled};
-ghost use Rattle.records.specs.declared.SymbolData.the-variants.{RegisterVariable, UserDefinedType};
 ghost use Rattle.records.specs.Answer.{decodedOf};
-ghost use Rattle.data.specs.Variable.{registerVariableRow, registerVariableOf, registerVariable, userDefinedTypeRow, userDefinedTypeOf, userDefinedType, constant};
+ghost use Rattle.data.specs.Variable.{registerVariable, userDefinedType, constant};
 use common::Refusal;
 use constants::S_MANCONSTANT;
 use names::ParsedPart;
-use names::Part;
 use records::ConstantSymbol;
 use records::Decoded;
 use records::RegisterVariableSymbol;
@@ -21,22 +12,30 @@ use records::SymbolData;
 use records::UserDefinedTypeSymbol;
 use variant::ParsedVariant;
 
-// Where the name stands: behind the kind and the fields.
+// Where the name stands.
 pub const REGISTER_VARIABLE_NAME: usize = 8;
 
 pub const USER_DEFINED_TYPE_NAME: usize = 6;
 
-// Where the value of a constant stands.
+// Where the value of a constant stands; its name comes behind it.
 pub const CONSTANT_VALUE: usize = 6;
 
-pub fn register_variable(s: &[u8], name: Part) -> RegisterVariableSymbol
-    requires { ⌜ 8 ≤ length (now s) ⌝ }
-    ensures { λ r. ⌜ RegisterVariable r ≡ filled registerVariableRow registerVariableOf (now (s .entry)) 2 name ⌝ }
+pub fn parse_register_variable(s: &[u8], kind: u16) -> Decoded
+    ensures { λ r. ⌜ decodedOf r ≡ registerVariable kind (now (s .entry)) 2 ⌝ }
 {
-    RegisterVariableSymbol {
-        type_index: common::u32_at(s, 2),
-        register: common::u16_at(s, 6),
-        name,
+    if s.len() < REGISTER_VARIABLE_NAME {
+        return Decoded::Refused(Refusal::RUNS_OUT);
+    }
+    match names::parse_symbol_name(s, REGISTER_VARIABLE_NAME, kind) {
+        ParsedPart::Value(name, next) => {
+            let data = RegisterVariableSymbol {
+                type_index: common::u32_at(s, 2),
+                register: common::u16_at(s, 6),
+                name,
+            };
+            return Decoded::Record(SymbolData::RegisterVariable(data), next);
+        }
+        ParsedPart::Refused(e) => return Decoded::Refused(e),
     }
 }
 
@@ -63,41 +62,19 @@ pub fn parse_constant(s: &[u8], kind: u16) -> Decoded
     }
 }
 
-pub fn user_defined_type(s: &[u8], name: Part) -> UserDefinedTypeSymbol
-    requires { ⌜ 6 ≤ length (now s) ⌝ }
-    ensures { λ r. ⌜ UserDefinedType r ≡ filled userDefinedTypeRow userDefinedTypeOf (now (s .entry)) 2 name ⌝ }
-{
-    UserDefinedTypeSymbol {
-        type_index: common::u32_at(s, 2),
-        name,
-    }
-}
-
-pub fn parse_register_variable(s: &[u8], kind: u16) -> Decoded
-    requires { ⌜ 2 ≤ length (now s) ⌝ }
-    ensures { λ r. ⌜ decodedOf r ≡ registerVariable kind (now (s .entry)) 2 ⌝ }
-{
-    match names::name_behind(s, REGISTER_VARIABLE_NAME, kind) {
-        ParsedPart::Value(name, next) => {
-            return Decoded::Record(
-                SymbolData::RegisterVariable(register_variable(s, name)),
-                next,
-            );
-        }
-        ParsedPart::Refused(e) => return Decoded::Refused(e),
-    }
-}
-
 pub fn parse_user_defined_type(s: &[u8], kind: u16) -> Decoded
-    requires { ⌜ 2 ≤ length (now s) ⌝ }
     ensures { λ r. ⌜ decodedOf r ≡ userDefinedType kind (now (s .entry)) 2 ⌝ }
 {
-    match names::name_behind(s, USER_DEFINED_TYPE_NAME, kind) {
+    if s.len() < USER_DEFINED_TYPE_NAME {
+        return Decoded::Refused(Refusal::RUNS_OUT);
+    }
+    match names::parse_symbol_name(s, USER_DEFINED_TYPE_NAME, kind) {
         ParsedPart::Value(name, next) => {
-            return Decoded::Record(
-                SymbolData::UserDefinedType(user_defined_type(s, name)),
-                next,
-            );
+            let data = UserDefinedTypeSymbol {
+                type_index: common::u32_at(s, 2),
+                name,
+            };
+            return Decoded::Record(SymbolData::UserDefinedType(data), next);
         }
         ParsedPart::Refused(e) => return Decoded::Refused(e),
     }

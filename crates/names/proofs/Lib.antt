@@ -1,2 +1,3 @@
 pub mod Run
 pub mod Names
+pub mod Rows

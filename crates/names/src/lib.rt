@@ -3,7 +3,6 @@
 // A name is kept as where it starts and how long it is; `as_bytes` gives the bytes themselves, out of the lent slice.
 ghost use mathlib.Core.Path.{_≡_};
 ghost use lib.ListN.{drop};
-ghost use Rattle.common.specs.Row.{behind};
 ghost use Rattle.names.specs.Name.{run, bytes, cstring, pascal, symbolName};
 ghost use Rattle.names.specs.Answer.{partOf};
 ghost use Rattle.names.specs.Lent.{IsPart};
@@ -81,16 +80,6 @@ pub fn parse_symbol_name(s: &[u8], at: usize, kind: u16) -> ParsedPart
     } else {
         parse_cstring(s, at)
     }
-}
-
-// The name behind fields that end at a position, their room tested first.
-pub fn name_behind(s: &[u8], at: usize, kind: u16) -> ParsedPart
-    ensures { λ r. ⌜ partOf r ≡ behind (symbolName kind) at (now (s .entry)) ⌝ }
-{
-    if s.len() < at {
-        return ParsedPart::Refused(Refusal::RUNS_OUT);
-    }
-    parse_symbol_name(s, at, kind)
 }
 
 // The bytes of a part, and none where it does not lie within the lent bytes.

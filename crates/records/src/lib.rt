@@ -1,6 +1,7 @@
 // The typed records (pdb's src/symbol/mod.rs): what a record decodes to. Nothing is read here.
 //
 // Indexes, types and ids are u32, registers and sections u16; names and annotations are parts of the record.
+pub mod field;
 pub mod flags;
 
 ghost use mathlib.Core.Path.{_≡_};

@@ -1,28 +1,58 @@
 -- `code::block::parse_block` meets its contract.
 -- Assumes nothing.
 use borrow.Author.Needs.{needs}
-use Rattle.common.proofs.Rows.{tailed}
-use Rattle.records.proofs.Named.{named-room, named-value, named-refused}
-use Rattle.code.specs.Block.{blockRow, blockOf, block}
+use mathlib.Core.Path.{refl, sym}
+use Rattle.names.proofs.Rows.{named-value, named-refused}
+use Rattle.code.proofs.Rows.{block-row}
 use Rattle.code.proofs.block.parse_block.Statement.{statement}
 use Rattle.code.proofs.block.parse_block.Tie as tie
 
-block-requires : tie.Need-block-requires
-block-requires c κs = named-room _ _ _ (c .before .name .given .1) (c .before .before .before .name-behind .ensures)
-
 returns : tie.Need-returns
-unfolding block tailed
-returns c =
-    let n = c .before .before in
-    named-value _ _ blockRow blockOf (n .name .given .1) (n .before .before .name-behind .ensures) (c .block .ensures)
+returns c = sym (block-row _ _ .short (c .if1 .taken))
+
+parse-symbol-name-requires : tie.Need-parse-symbol-name-requires
+parse-symbol-name-requires c κs = search needs
+
+enum-known-name : tie.Need-enum-known-name
+enum-known-name c = search needs
+
+u32-at-requires : tie.Need-u32-at-requires
+u32-at-requires c κs = search needs
+
+u32-at-requires-2 : tie.Need-u32-at-requires-2
+u32-at-requires-2 c κs = search needs
+
+u32-at-requires-3 : tie.Need-u32-at-requires-3
+u32-at-requires-3 c κs = search needs
+
+place-at-requires : tie.Need-place-at-requires
+place-at-requires c κs = search needs
 
 returns-2 : tie.Need-returns-2
-unfolding block tailed
+unfolding block-row
 returns-2 c =
-    let p = c .before .before .before in
-    named-refused _ _ blockRow blockOf (c .before .e .given .1) (p .name-behind .ensures) (p .before .before .pre)
+    rw (c .place-at .ensures, c .before .u32-at3 .ensures, c .before .before .u32-at2 .ensures, c .before .before .before .u32-at .ensures)
+    (named-value (block-row _ _) _ _ refl (c .before .before .before .before .before .before .before .before .if1 .left) (c .before .before .before .before .before .before .before .parse-symbol-name .ensures) (c .before .before .before .before .before .name .given .1))
+
+enum-known-e : tie.Need-enum-known-e
+enum-known-e c = search needs
+
+returns-3 : tie.Need-returns-3
+unfolding block-row
+returns-3 c =
+    named-refused (block-row _ _) _ _ refl (c .before .before .before .before .if1 .left) (c .before .before .before .parse-symbol-name .ensures) (c .before .e .given .1)
 
 pub parse-block-spec : {M : Type 1} → statement M
 parse-block-spec =
     tie.close
-    (tie.spec (λ c κs. search needs) (λ c. search needs) block-requires returns (λ c. search needs) returns-2)
+    (tie.spec
+    returns
+    parse-symbol-name-requires
+    enum-known-name
+    u32-at-requires
+    u32-at-requires-2
+    u32-at-requires-3
+    place-at-requires
+    returns-2
+    enum-known-e
+    returns-3)

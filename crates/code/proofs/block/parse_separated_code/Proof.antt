@@ -1,24 +1,59 @@
 -- `code::block::parse_separated_code` meets its contract.
 -- Assumes nothing.
 use borrow.Author.Needs.{needs}
-use mathlib.Core.Path.{sym, _∙_}
-use Rattle.common.proofs.Rows.{fixed, fixed-value, fixed-short-within}
-use Rattle.code.specs.Block.{separatedCodeRow, separatedCodeOf, separatedCode}
-use Rattle.records.proofs.Named.{told}
+use mathlib.Core.Path.{sym}
+use Rattle.code.proofs.Rows.{separated-code-row}
 use Rattle.code.proofs.block.parse_separated_code.Statement.{statement}
 use Rattle.code.proofs.block.parse_separated_code.Tie as tie
 
 returns : tie.Need-returns
-unfolding separatedCode fixed
-returns c = sym (fixed-short-within separatedCodeRow separatedCodeOf _ 2 (c .before .before .pre) (c .if1 .taken))
+returns c = sym (separated-code-row _ .short (c .if1 .taken))
 
-separated-code-requires : tie.Need-separated-code-requires
-separated-code-requires c κs = c .if1 .left
+u32-at-requires : tie.Need-u32-at-requires
+u32-at-requires c κs = search needs
+
+u32-at-requires-2 : tie.Need-u32-at-requires-2
+u32-at-requires-2 c κs = search needs
+
+u32-at-requires-3 : tie.Need-u32-at-requires-3
+u32-at-requires-3 c κs = search needs
+
+u32-at-requires-4 : tie.Need-u32-at-requires-4
+u32-at-requires-4 c κs = search needs
+
+from-bits-requires : tie.Need-from-bits-requires
+from-bits-requires c κs = search needs
+
+u32-at-requires-5 : tie.Need-u32-at-requires-5
+u32-at-requires-5 c κs = search needs
+
+u16-at-requires : tie.Need-u16-at-requires
+u16-at-requires c κs = search needs
+
+u32-at-requires-6 : tie.Need-u32-at-requires-6
+u32-at-requires-6 c κs = search needs
+
+u16-at-requires-2 : tie.Need-u16-at-requires-2
+u16-at-requires-2 c κs = search needs
 
 returns-2 : tie.Need-returns-2
-unfolding separatedCode fixed
-returns-2 c = told (c .separated-code .ensures) ∙ fixed-value separatedCodeRow separatedCodeOf _ 2 (c .before .if1 .left)
+unfolding separated-code-row
+returns-2 c =
+    rw (c .u16-at2 .ensures, c .before .u32-at6 .ensures, c .before .before .u16-at .ensures, c .before .before .before .u32-at5 .ensures, c .before .before .before .before .from-bits .ensures, c .before .before .before .before .before .u32-at4 .ensures, c .before .before .before .before .before .before .u32-at3 .ensures, c .before .before .before .before .before .before .before .u32-at2 .ensures, c .before .before .before .before .before .before .before .before .u32-at .ensures)
+    (sym (separated-code-row _ .there (c .before .before .before .before .before .before .before .before .before .if1 .left)))
 
 pub parse-separated-code-spec : {M : Type 1} → statement M
 parse-separated-code-spec =
-    tie.close (tie.spec returns separated-code-requires returns-2)
+    tie.close
+    (tie.spec
+    returns
+    u32-at-requires
+    u32-at-requires-2
+    u32-at-requires-3
+    u32-at-requires-4
+    from-bits-requires
+    u32-at-requires-5
+    u16-at-requires
+    u32-at-requires-6
+    u16-at-requires-2
+    returns-2)

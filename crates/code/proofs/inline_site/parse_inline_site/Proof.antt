@@ -1,19 +1,67 @@
 -- `code::inline_site::parse_inline_site` meets its contract.
 -- Assumes nothing.
 use borrow.Author.Needs.{needs}
-use borrow.Author.Tests.{ne-eqb}
-use Rattle.code.specs.Inline.{inlineSite}
+use mathlib.Core.Path.{refl, ap, sym, _∙_}
+use Rattle.common.proofs.Rows.{first-refused, both-value}
+use Rattle.code.specs.Answer.{invocationsOf}
+use Rattle.code.specs.Inline.{invocations, rest}
+use Rattle.code.proofs.Invocations.{invocations-within}
+use Rattle.code.proofs.Rows.{inline-site-row}
 use Rattle.code.proofs.inline_site.parse_inline_site.Statement.{statement}
 use Rattle.code.proofs.inline_site.parse_inline_site.Tie as tie
 
 returns : tie.Need-returns
-unfolding inlineSite
-returns c = rw (c .before .if1 .taken) (c .parse-counted-site .ensures)
+returns c = sym (inline-site-row _ _ .short (c .if1 .taken))
+
+parse-invocations-requires : tie.Need-parse-invocations-requires
+parse-invocations-requires c κs = search needs
+
+enum-known-invocations : tie.Need-enum-known-invocations
+enum-known-invocations c = search needs
+
+index-at-requires : tie.Need-index-at-requires
+index-at-requires c κs = search needs
+
+u32-at-requires : tie.Need-u32-at-requires
+u32-at-requires c κs = search needs
+
+u32-at-requires-2 : tie.Need-u32-at-requires-2
+u32-at-requires-2 c κs = search needs
+
+sub-t15 : tie.Need-sub-t15
+sub-t15 c =
+    let i = c .before .before .before .before in
+    let p = i .before .before in
+    invocations-within _ _ 14 (p .before .if1 .left) (sym (ap invocationsOf (i .invocations .given .1)) ∙ p .parse-invocations .ensures)
 
 returns-2 : tie.Need-returns-2
-unfolding inlineSite
-returns-2 c = rw (ne-eqb _ 0x115d (c .before .if1 .left)) (c .parse-plain-site .ensures)
+unfolding inline-site-row rest
+returns-2 c =
+    let i = c .before .before .before .before in
+    let p = i .before .before in
+    rw (c .u32-at2 .ensures, c .before .u32-at .ensures, c .before .before .index-at .ensures)
+    (both-value (inline-site-row _ _) (invocations _) rest _ refl (p .before .if1 .left) (sym (ap invocationsOf (i .invocations .given .1)) ∙ p .parse-invocations .ensures) refl)
+
+enum-known-e : tie.Need-enum-known-e
+enum-known-e c = search needs
+
+returns-3 : tie.Need-returns-3
+unfolding inline-site-row
+returns-3 c =
+    let p = c .before .before .before in
+    first-refused (inline-site-row _ _) (invocations _) rest _ refl (p .before .if1 .left) (sym (ap invocationsOf (c .before .e .given .1)) ∙ p .parse-invocations .ensures)
 
 pub parse-inline-site-spec : {M : Type 1} → statement M
 parse-inline-site-spec =
-    tie.close (tie.spec (λ c κs. search needs) returns (λ c κs. search needs) returns-2)
+    tie.close
+    (tie.spec
+    returns
+    parse-invocations-requires
+    enum-known-invocations
+    index-at-requires
+    u32-at-requires
+    u32-at-requires-2
+    sub-t15
+    returns-2
+    enum-known-e
+    returns-3)

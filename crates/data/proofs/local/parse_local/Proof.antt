@@ -1,28 +1,36 @@
 -- `data::local::parse_local` meets its contract.
 -- Assumes nothing.
 use borrow.Author.Needs.{needs}
-use Rattle.common.proofs.Rows.{tailed}
-use Rattle.records.proofs.Named.{named-room, named-value, named-refused}
-use Rattle.data.specs.Local.{localRow, localOf, local}
+use mathlib.Core.Path.{refl, sym}
+use Rattle.names.proofs.Rows.{named-value, named-refused}
+use Rattle.data.proofs.Rows.{local-row}
 use Rattle.data.proofs.local.parse_local.Statement.{statement}
 use Rattle.data.proofs.local.parse_local.Tie as tie
 
-local-requires : tie.Need-local-requires
-local-requires c κs = named-room _ _ _ (c .before .name .given .1) (c .before .before .before .name-behind .ensures)
-
 returns : tie.Need-returns
-unfolding local tailed
-returns c =
-    let n = c .before .before in
-    named-value _ _ localRow localOf (n .name .given .1) (n .before .before .name-behind .ensures) (c .local .ensures)
+returns c = sym (local-row _ _ .short (c .if1 .taken))
 
 returns-2 : tie.Need-returns-2
-unfolding local tailed
+unfolding local-row
 returns-2 c =
-    let p = c .before .before .before in
-    named-refused _ _ localRow localOf (c .before .e .given .1) (p .name-behind .ensures) (p .before .before .pre)
+    rw (c .from-bits .ensures, c .before .u16-at .ensures, c .before .before .u32-at .ensures)
+    (named-value (local-row _ _) _ _ refl (c .before .before .before .before .before .before .before .if1 .left) (c .before .before .before .before .before .before .parse-symbol-name .ensures) (c .before .before .before .before .name .given .1))
+
+returns-3 : tie.Need-returns-3
+unfolding local-row
+returns-3 c =
+    named-refused (local-row _ _) _ _ refl (c .before .before .before .before .if1 .left) (c .before .before .before .parse-symbol-name .ensures) (c .before .e .given .1)
 
 pub parse-local-spec : {M : Type 1} → statement M
 parse-local-spec =
     tie.close
-    (tie.spec (λ c κs. search needs) (λ c. search needs) local-requires returns (λ c. search needs) returns-2)
+    (tie.spec
+    returns
+    (λ c κs. search needs)
+    (λ c. search needs)
+    (λ c κs. search needs)
+    (λ c κs. search needs)
+    (λ c κs. search needs)
+    returns-2
+    (λ c. search needs)
+    returns-3)

@@ -1,28 +1,35 @@
 -- `data::storage::parse_data` meets its contract.
 -- Assumes nothing.
 use borrow.Author.Needs.{needs}
-use Rattle.common.proofs.Rows.{tailed}
-use Rattle.records.proofs.Named.{named-room, named-value, named-refused}
-use Rattle.data.specs.Storage.{dataRow, dataOf, dataItem}
+use mathlib.Core.Path.{refl, sym}
+use Rattle.names.proofs.Rows.{named-value, named-refused}
+use Rattle.data.proofs.Rows.{data-row}
 use Rattle.data.proofs.storage.parse_data.Statement.{statement}
 use Rattle.data.proofs.storage.parse_data.Tie as tie
 
-data-item-requires : tie.Need-data-item-requires
-data-item-requires c κs = named-room _ _ _ (c .before .name .given .1) (c .before .before .before .name-behind .ensures)
-
 returns : tie.Need-returns
-unfolding dataItem tailed
-returns c =
-    let n = c .before .before in
-    named-value _ _ dataRow (dataOf (n .before .before .before .before .args .kind)) (n .name .given .1) (n .before .before .name-behind .ensures) (c .data-item .ensures)
+returns c = sym (data-row _ _ .short (c .if1 .taken))
 
 returns-2 : tie.Need-returns-2
-unfolding dataItem tailed
+unfolding data-row
 returns-2 c =
-    let p = c .before .before .before in
-    named-refused _ _ dataRow (dataOf (p .before .before .args .kind)) (c .before .e .given .1) (p .name-behind .ensures) (p .before .before .pre)
+    rw (c .place-at .ensures, c .before .u32-at .ensures)
+    (named-value (data-row _ _) _ _ refl (c .before .before .before .before .before .before .if1 .left) (c .before .before .before .before .before .parse-symbol-name .ensures) (c .before .before .before .name .given .1))
+
+returns-3 : tie.Need-returns-3
+unfolding data-row
+returns-3 c =
+    named-refused (data-row _ _) _ _ refl (c .before .before .before .before .if1 .left) (c .before .before .before .parse-symbol-name .ensures) (c .before .e .given .1)
 
 pub parse-data-spec : {M : Type 1} → statement M
 parse-data-spec =
     tie.close
-    (tie.spec (λ c κs. search needs) (λ c. search needs) data-item-requires returns (λ c. search needs) returns-2)
+    (tie.spec
+    returns
+    (λ c κs. search needs)
+    (λ c. search needs)
+    (λ c κs. search needs)
+    (λ c κs. search needs)
+    returns-2
+    (λ c. search needs)
+    returns-3)

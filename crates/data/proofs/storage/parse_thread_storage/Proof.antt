@@ -1,28 +1,35 @@
 -- `data::storage::parse_thread_storage` meets its contract.
 -- Assumes nothing.
 use borrow.Author.Needs.{needs}
-use Rattle.common.proofs.Rows.{tailed}
-use Rattle.records.proofs.Named.{named-room, named-value, named-refused}
-use Rattle.data.specs.Storage.{threadStorageRow, threadStorageOf, threadStorage}
+use mathlib.Core.Path.{refl, sym}
+use Rattle.names.proofs.Rows.{named-value, named-refused}
+use Rattle.data.proofs.Rows.{thread-storage-row}
 use Rattle.data.proofs.storage.parse_thread_storage.Statement.{statement}
 use Rattle.data.proofs.storage.parse_thread_storage.Tie as tie
 
-thread-storage-requires : tie.Need-thread-storage-requires
-thread-storage-requires c κs = named-room _ _ _ (c .before .name .given .1) (c .before .before .before .name-behind .ensures)
-
 returns : tie.Need-returns
-unfolding threadStorage tailed
-returns c =
-    let n = c .before .before in
-    named-value _ _ threadStorageRow (threadStorageOf (n .before .before .before .before .args .kind)) (n .name .given .1) (n .before .before .name-behind .ensures) (c .thread-storage .ensures)
+returns c = sym (thread-storage-row _ _ .short (c .if1 .taken))
 
 returns-2 : tie.Need-returns-2
-unfolding threadStorage tailed
+unfolding thread-storage-row
 returns-2 c =
-    let p = c .before .before .before in
-    named-refused _ _ threadStorageRow (threadStorageOf (p .before .before .args .kind)) (c .before .e .given .1) (p .name-behind .ensures) (p .before .before .pre)
+    rw (c .place-at .ensures, c .before .u32-at .ensures)
+    (named-value (thread-storage-row _ _) _ _ refl (c .before .before .before .before .before .before .if1 .left) (c .before .before .before .before .before .parse-symbol-name .ensures) (c .before .before .before .name .given .1))
+
+returns-3 : tie.Need-returns-3
+unfolding thread-storage-row
+returns-3 c =
+    named-refused (thread-storage-row _ _) _ _ refl (c .before .before .before .before .if1 .left) (c .before .before .before .parse-symbol-name .ensures) (c .before .e .given .1)
 
 pub parse-thread-storage-spec : {M : Type 1} → statement M
 parse-thread-storage-spec =
     tie.close
-    (tie.spec (λ c κs. search needs) (λ c. search needs) thread-storage-requires returns (λ c. search needs) returns-2)
+    (tie.spec
+    returns
+    (λ c κs. search needs)
+    (λ c. search needs)
+    (λ c κs. search needs)
+    (λ c κs. search needs)
+    returns-2
+    (λ c. search needs)
+    returns-3)

@@ -1,28 +1,35 @@
 -- `data::variable::parse_register_variable` meets its contract.
 -- Assumes nothing.
 use borrow.Author.Needs.{needs}
-use Rattle.common.proofs.Rows.{tailed}
-use Rattle.records.proofs.Named.{named-room, named-value, named-refused}
-use Rattle.data.specs.Variable.{registerVariableRow, registerVariableOf, registerVariable}
+use mathlib.Core.Path.{refl, sym}
+use Rattle.names.proofs.Rows.{named-value, named-refused}
+use Rattle.data.proofs.Rows.{register-variable-row}
 use Rattle.data.proofs.variable.parse_register_variable.Statement.{statement}
 use Rattle.data.proofs.variable.parse_register_variable.Tie as tie
 
-register-variable-requires : tie.Need-register-variable-requires
-register-variable-requires c κs = named-room _ _ _ (c .before .name .given .1) (c .before .before .before .name-behind .ensures)
-
 returns : tie.Need-returns
-unfolding registerVariable tailed
-returns c =
-    let n = c .before .before in
-    named-value _ _ registerVariableRow registerVariableOf (n .name .given .1) (n .before .before .name-behind .ensures) (c .register-variable .ensures)
+returns c = sym (register-variable-row _ _ .short (c .if1 .taken))
 
 returns-2 : tie.Need-returns-2
-unfolding registerVariable tailed
+unfolding register-variable-row
 returns-2 c =
-    let p = c .before .before .before in
-    named-refused _ _ registerVariableRow registerVariableOf (c .before .e .given .1) (p .name-behind .ensures) (p .before .before .pre)
+    rw (c .u16-at .ensures, c .before .u32-at .ensures)
+    (named-value (register-variable-row _ _) _ _ refl (c .before .before .before .before .before .before .if1 .left) (c .before .before .before .before .before .parse-symbol-name .ensures) (c .before .before .before .name .given .1))
+
+returns-3 : tie.Need-returns-3
+unfolding register-variable-row
+returns-3 c =
+    named-refused (register-variable-row _ _) _ _ refl (c .before .before .before .before .if1 .left) (c .before .before .before .parse-symbol-name .ensures) (c .before .e .given .1)
 
 pub parse-register-variable-spec : {M : Type 1} → statement M
 parse-register-variable-spec =
     tie.close
-    (tie.spec (λ c κs. search needs) (λ c. search needs) register-variable-requires returns (λ c. search needs) returns-2)
+    (tie.spec
+    returns
+    (λ c κs. search needs)
+    (λ c. search needs)
+    (λ c κs. search needs)
+    (λ c κs. search needs)
+    returns-2
+    (λ c. search needs)
+    returns-3)

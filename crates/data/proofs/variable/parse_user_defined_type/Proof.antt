@@ -1,28 +1,34 @@
 -- `data::variable::parse_user_defined_type` meets its contract.
 -- Assumes nothing.
 use borrow.Author.Needs.{needs}
-use Rattle.common.proofs.Rows.{tailed}
-use Rattle.records.proofs.Named.{named-room, named-value, named-refused}
-use Rattle.data.specs.Variable.{userDefinedTypeRow, userDefinedTypeOf, userDefinedType}
+use mathlib.Core.Path.{refl, sym}
+use Rattle.names.proofs.Rows.{named-value, named-refused}
+use Rattle.data.proofs.Rows.{user-defined-type-row}
 use Rattle.data.proofs.variable.parse_user_defined_type.Statement.{statement}
 use Rattle.data.proofs.variable.parse_user_defined_type.Tie as tie
 
-user-defined-type-requires : tie.Need-user-defined-type-requires
-user-defined-type-requires c κs = named-room _ _ _ (c .before .name .given .1) (c .before .before .before .name-behind .ensures)
-
 returns : tie.Need-returns
-unfolding userDefinedType tailed
-returns c =
-    let n = c .before .before in
-    named-value _ _ userDefinedTypeRow userDefinedTypeOf (n .name .given .1) (n .before .before .name-behind .ensures) (c .user-defined-type .ensures)
+returns c = sym (user-defined-type-row _ _ .short (c .if1 .taken))
 
 returns-2 : tie.Need-returns-2
-unfolding userDefinedType tailed
+unfolding user-defined-type-row
 returns-2 c =
-    let p = c .before .before .before in
-    named-refused _ _ userDefinedTypeRow userDefinedTypeOf (c .before .e .given .1) (p .name-behind .ensures) (p .before .before .pre)
+    rw (c .u32-at .ensures)
+    (named-value (user-defined-type-row _ _) _ _ refl (c .before .before .before .before .before .if1 .left) (c .before .before .before .before .parse-symbol-name .ensures) (c .before .before .name .given .1))
+
+returns-3 : tie.Need-returns-3
+unfolding user-defined-type-row
+returns-3 c =
+    named-refused (user-defined-type-row _ _) _ _ refl (c .before .before .before .before .if1 .left) (c .before .before .before .parse-symbol-name .ensures) (c .before .e .given .1)
 
 pub parse-user-defined-type-spec : {M : Type 1} → statement M
 parse-user-defined-type-spec =
     tie.close
-    (tie.spec (λ c κs. search needs) (λ c. search needs) user-defined-type-requires returns (λ c. search needs) returns-2)
+    (tie.spec
+    returns
+    (λ c κs. search needs)
+    (λ c. search needs)
+    (λ c κs. search needs)
+    returns-2
+    (λ c. search needs)
+    returns-3)
