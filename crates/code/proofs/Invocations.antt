@@ -42,6 +42,7 @@ module _ (kind : ℕ) (s : List ℕ) (at : ℕ) where
       byRoom false r q =
           let v : value count to ≡ refused runsOut = q ∙ then-refused (uint 4) (λ n. done (Some n)) s at (uint-short 4 s at r) in
           absurd (let z : _≡_ {A = ℕ} 0 1 = cc in omega arith)
+
       byKind : (b : Bool) → value count to ≡ cond b (uint 4 >>= λ n. done (Some n)) (done None) s at → to ≤ length s
       byKind true q = byRoom (leb (at + 4) (length s)) refl q
       byKind false q = let same : to ≡ at = cc in omega arith

@@ -1,5 +1,5 @@
 pub mod Answer
 pub mod Compile
 pub mod Linkage
-pub mod Module
+pub mod Object
 pub mod Reference

@@ -1,12 +1,13 @@
 -- What reading a name gives.
 -- Assumes nothing.
 use Prim.Native.Nat.{ℕ, _+_, _≤_, _<_}
-use mathlib.Core.Path.{_≡_, _∙_, sym}
+use mathlib.Core.Path.{_≡_, refl, _∙_, sym}
 use mathlib.Core.List.{List, []}
-use mathlib.Core.Bool.{Bool, true, false}
+use mathlib.Core.Bool.{Bool, true, false, cond}
+use native.Mathlib.Omega.{arith}
 use borrow.Author.Tests.{lt-ltb, le-ltb, le-leb, lt-leb}
 use lib.ListN.{length, take, drop}
-use lib.Dec.{leb}
+use lib.Dec.{ltb, leb}
 use Rattle.common.specs.Bytes.{le}
 use Rattle.common.specs.Reader.{Read, value, refused, runsOut, uint}
 use Rattle.common.proofs.Readers.{uint-value, uint-short, then-value, then-refused}
@@ -48,6 +49,15 @@ name-pascal k s at h = rw (lt-ltb k 0x1100 h)
 pub name-cstring : (k : ℕ) (s : List ℕ) (at : ℕ) → 0x1100 ≤ k → cstring s at ≡ symbolName k s at
 unfolding symbolName
 name-cstring k s at h = rw (le-ltb k 0x1100 h)
+
+-- a name that would start behind the bytes
+pub name-short : (kind : ℕ) (s : List ℕ) (at : ℕ) → length s < at → symbolName kind s at ≡ refused runsOut
+unfolding symbolName
+name-short kind s at h = go (ltb kind 0x1100)
+  where
+    go : (b : Bool) → cond b pascal cstring s at ≡ refused runsOut
+    go true = sym (pascal-short s at (omega arith))
+    go false = sym (cstring-short s at {n = run (drop at s)} refl (omega arith))
 
 -- a part that lies within the bytes, and one that does not
 module _ (s : List ℕ) (p : Part) {b : Bool} (e : b ≡ leb (p .start + p .len) (length s)) where

@@ -2,7 +2,7 @@
 -- Assumes nothing.
 use Prim.Native.Nat.{ℕ, zero, suc, _+_, _-_, _≤_, _<_}
 use mathlib.Core.Path.{_≡_, refl, _∙_, sym}
-use mathlib.Core.List.{List, [], _∷_}
+use mathlib.Core.List.{List}
 use mathlib.Core.Bool.{Bool, true, false, not}
 use native.Mathlib.Omega.{arith}
 use native.Mathlib.Numerals.{sub-one}
@@ -13,19 +13,15 @@ use Rattle.common.specs.Bytes.{le}
 use Rattle.common.specs.Reader.{Read, value, refused, runsOut}
 use Rattle.common.specs.declared.Refusal.{Refusal}
 use Rattle.common.proofs.Readers.{room, no-room, then-value, then-refused}
-use Rattle.common.proofs.Rows.{tailed, tailed-value, tailed-refused, tailed-short}
+use Rattle.common.proofs.Rows.{Row, last, uint-fixed, tail-value, tail-refused}
 use Rattle.names.specs.Name.{symbolName}
 use Rattle.names.specs.declared.Part.{Part}
-use Rattle.registers.specs.Entries.{registerEntry, entry, skip, entryAt}
+use Rattle.registers.specs.Entries.{entry, skip, entryAt}
 use Rattle.registers.specs.declared.entry.RegisterEntry.{RegisterEntry}
 
--- an entry as a row of widths
-abbrev entryRow : List ℕ
-entryRow = 2 ∷ []
-
-entry-row : (kind : ℕ) (s : List ℕ) (at : ℕ) → tailed entryRow (symbolName kind) registerEntry s at ≡ entry kind s at
-unfolding tailed entry
-entry-row kind s at = refl
+unfoldable pub entry-row : (kind : ℕ) (s : List ℕ) (at : ℕ) → Row (entry kind) at (at + 2) s
+unfolding entry
+entry-row kind s at = last _ (uint-fixed 2)
 
 -- what the test of an entry's room says
 pub entry-room : (s : List ℕ) (at : ℕ) {b : Bool} → b ≡ leb (at + 2) (length s) → not b ≡ false → at + 2 ≤ length s
@@ -33,14 +29,16 @@ entry-room s at e t = room (at + 2) (length s) e (not-false _ t)
 
 -- the register is there, and the name behind it was read or refused; or the register runs out
 module _ (kind : ℕ) (s : List ℕ) (at : ℕ) {b : Bool} (e : b ≡ leb (at + 2) (length s)) where
-  pub entry-value : not b ≡ false → {register to : ℕ} {name : Part} → register ≡ le 2 s at → value name to ≡ symbolName kind s (at + 2) → value (registerEntry register name) to ≡ entry kind s at
-  entry-value t p q = rw p (tailed-value entryRow (symbolName kind) registerEntry s at (entry-room s at e t) q ∙ entry-row kind s at)
+  pub entry-value : not b ≡ false → {register to : ℕ} {name : Part} → register ≡ le 2 s at → value name to ≡ symbolName kind s (at + 2) → value (record { register = register; name = name }) to ≡ entry kind s at
+  unfolding entry-row
+  entry-value t p q = rw p (tail-value (entry-row kind s at) (symbolName kind) _ refl (entry-room s at e t) q)
 
   pub entry-refused : not b ≡ false → {f : Refusal} → refused f ≡ symbolName kind s (at + 2) → refused f ≡ entry kind s at
-  entry-refused t q = tailed-refused entryRow (symbolName kind) registerEntry s at (entry-room s at e t) q ∙ entry-row kind s at
+  unfolding entry-row
+  entry-refused t q = tail-refused (entry-row kind s at) (symbolName kind) _ refl (entry-room s at e t) q
 
   pub entry-short : not b ≡ true → refused runsOut ≡ entry kind s at
-  entry-short t = tailed-short 2 [] (symbolName kind) registerEntry s at (no-room (at + 2) (length s) e (not-true _ t)) ∙ entry-row kind s at
+  entry-short t = sym (entry-row kind s at .short (no-room (at + 2) (length s) e (not-true _ t)))
 
 -- past no entry, past one more, and past one that can't be read
 pub skip-none : (kind n : ℕ) (s : List ℕ) (at : ℕ) → n ≤ 0 → value tt at ≡ skip kind n s at

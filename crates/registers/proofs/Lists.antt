@@ -1,28 +1,19 @@
 -- What reading a register list gives.
 -- Assumes nothing.
-use Prim.Native.Nat.{ℕ, _+_, _≤_, _<_}
-use mathlib.Core.Path.{_≡_, ap, _∙_, sym}
-use mathlib.Core.List.{List, [], _∷_}
-use mathlib.Core.Bool.{Bool, true, false}
-use native.Mathlib.Omega.{arith}
+use Prim.Native.Nat.{ℕ, _≤_}
+use mathlib.Core.Path.{_≡_, refl, ap, sym, _∙_}
+use mathlib.Core.List.{List}
+use mathlib.Core.Bool.{true, false}
 use lib.ListN.{length}
 use Rattle.common.specs.Bytes.{le}
-use Rattle.common.specs.Reader.{Read, value, refused, runsOut, _>>=_, uint}
+use Rattle.common.specs.Reader.{Read, value, refused, done, _>>=_, uint}
 use Rattle.common.specs.declared.Refusal.{Refusal}
-use Rattle.common.proofs.Rows.{leading, leading-reads, leading-short}
+use Rattle.common.proofs.Readers.{then-value, then-refused}
+use Rattle.common.proofs.Rows.{Row, last, uint-fixed}
 use Rattle.records.specs.declared.SymbolData.{SymbolData}
+use Rattle.records.specs.declared.SymbolData.the-variants.{MultiRegisterVariable}
 use Rattle.registers.specs.Entries.{skip}
-use Rattle.registers.specs.Registers.{longList, registerCount, multiRegisterOf, registerList, multiRegisterVariable}
-
--- the list, behind its count
-module _ (kind type count : ℕ) (s : List ℕ) (first : ℕ) where
-  pub list-value : {to : ℕ} → value tt to ≡ skip kind count s first → value (multiRegisterOf type count first) to ≡ registerList kind type count s first
-  unfolding registerList _>>=_
-  list-value q = rw (← q)
-
-  pub list-refused : {e : Refusal} → refused e ≡ skip kind count s first → refused e ≡ registerList kind type count s first
-  unfolding registerList _>>=_
-  list-refused q = rw (← q)
+use Rattle.registers.specs.Registers.{longList, registerCount, position, multiRegisterVariable}
 
 -- the count is u16 or u8, by the kind
 pub count-long : (kind : ℕ) → longList kind ≡ true → registerCount kind ≡ uint 2
@@ -33,18 +24,23 @@ pub count-short : (kind : ℕ) → longList kind ≡ false → registerCount kin
 unfolding registerCount
 count-short kind e = rw e
 
--- the type and a count of w bytes are there, or run out
-module _ (w kind : ℕ) (s : List ℕ) (at : ℕ) (width : registerCount kind ≡ uint w) where
-  multi-row : leading (4 ∷ w ∷ []) (λ type count. registerList kind type count) s at ≡ multiRegisterVariable kind s at
-  unfolding multiRegisterVariable
-  multi-row = rw width
+unfoldable pub list-row : (kind : ℕ) (s : List ℕ) → Row (multiRegisterVariable kind) 2 6 s
+unfolding multiRegisterVariable
+list-row kind s = last _ (uint-fixed 4)
 
-  pub multi-there : at + 4 + w ≤ length s → {r : Read SymbolData} {type count : ℕ} → type ≡ le 4 s at → count ≡ le w s (at + 4) → r ≡ registerList kind type count s (at + 4 + w) → r ≡ multiRegisterVariable kind s at
-  multi-there h p q e =
-      e
-      ∙ rw (p, q)
-      (ap (registerList kind (le 4 s at) (le w s (at + 4)) s) (omega arith)
-      ∙ sym (leading-reads (4 ∷ w ∷ []) (λ type count. registerList kind type count) s at (omega arith)) ∙ multi-row)
+-- the type is there, and the count and the entries are read or refused
+module _ (kind : ℕ) (s : List ℕ) (h : 6 ≤ length s) where
+  pub count-refused : {e : Refusal} → refused e ≡ registerCount kind s 6 → refused e ≡ multiRegisterVariable kind s 2
+  unfolding list-row
+  count-refused e = sym (list-row kind s .there h ∙ then-refused (registerCount kind) _ s 6 (sym e))
 
-  pub multi-short : length s < at + 4 + w → refused runsOut ≡ multiRegisterVariable kind s at
-  multi-short h = sym (leading-short 4 (w ∷ []) (λ type count. registerList kind type count) s at (omega arith)) ∙ multi-row
+  module _ {count first : ℕ} (p : value count first ≡ registerCount kind s 6) where
+    list-is : multiRegisterVariable kind s 2 ≡ (skip kind count >>= λ _. done (MultiRegisterVariable (record { «type_index» = le 4 s 2; count = count; first = first }))) s first
+    unfolding list-row
+    list-is = list-row kind s .there h ∙ then-value (registerCount kind) _ s 6 (sym p) ∙ then-value position _ s first refl
+
+    pub entries-refused : {e : Refusal} → refused e ≡ skip kind count s first → refused e ≡ multiRegisterVariable kind s 2
+    entries-refused e = sym (list-is ∙ then-refused (skip kind count) _ s first (sym e))
+
+    pub list-value : {to : ℕ} → value tt to ≡ skip kind count s first → value (MultiRegisterVariable (record { «type_index» = le 4 s 2; count = count; first = first })) to ≡ multiRegisterVariable kind s 2
+    list-value e = sym (list-is ∙ then-value (skip kind count) _ s first (sym e))

@@ -3,18 +3,14 @@
 use Prim.Native.Nat.{ℕ, zero, suc}
 use Rattle.common.specs.Reader.{Reader, _>>=_, done, u16}
 use Rattle.names.specs.Name.{symbolName}
-use Rattle.names.specs.declared.Part.{Part}
 use Rattle.registers.specs.declared.entry.RegisterEntry.{RegisterEntry}
 
 -- an entry of a list
-abbrev pub registerEntry : ℕ → Part → RegisterEntry
-registerEntry register name = record { register = register; name = name }
-
 unfoldable pub entry : ℕ → Reader RegisterEntry
 entry kind = do
   register ← u16
   name ← symbolName kind
-  done (registerEntry register name)
+  done (record { register = register; name = name })
 
 -- past n entries: each has to be read, and the first that can't be decides
 unfoldable pub skip : ℕ → ℕ → Reader (Unit {0})

@@ -15,24 +15,15 @@ longList kind = eqb kind 0x1117 || eqb kind 0x1014
 unfoldable pub registerCount : ℕ → Reader ℕ
 registerCount kind = cond (longList kind) u16 u8
 
--- MANYREGSYM, MANYREGSYM2
-abbrev pub multiRegisterOf : ℕ → ℕ → ℕ → SymbolData
-multiRegisterOf type count first =
-    MultiRegisterVariable (record { «type_index» = type; count = count; first = first })
-
 -- where reading stands; nothing is read
 abbrev pub position : Reader ℕ
 position s at = value at at
 
--- behind the count: the record keeps where the entries start, and all of them have to be read
-unfoldable pub registerList : ℕ → ℕ → ℕ → Reader SymbolData
-registerList kind type count = do
-  first ← position
-  _ ← skip kind count
-  done (multiRegisterOf type count first)
-
+-- the record keeps where the entries start, and all of them have to be read
 unfoldable pub multiRegisterVariable : ℕ → Reader SymbolData
 multiRegisterVariable kind = do
   type ← u32
   count ← registerCount kind
-  registerList kind type count
+  first ← position
+  _ ← skip kind count
+  done (MultiRegisterVariable (record { «type_index» = type; count = count; first = first }))

@@ -1,92 +1,112 @@
--- The name of each class of records that is fixed fields, or those and a name.
+-- The name of each class of records that is a row of fields, and a name or nothing behind them.
 -- Assumes nothing.
-use mathlib.Core.Path.{refl}
-use Rattle.common.proofs.Rows.{tailed, fixed}
+use Prim.Native.Nat.{ℕ}
+use mathlib.Core.Path.{_≡_, refl, ap, _∙_, sym}
+use mathlib.Core.List.{List}
+use Rattle.common.specs.Reader.{Read, value, refused}
+use Rattle.common.proofs.Readers.{then-value, then-refused}
 use Rattle.names.specs.Name.{symbolName}
+use Rattle.names.specs.declared.Part.{Part}
 use Rattle.records.specs.declared.OptionPart.the-variants.{None, Some}
-use Rattle.compiland.specs.Module.{objName, objNameRow, objNameOf, usingNamespace, usingNamespaceRow, usingNamespaceOf, buildInfo, buildInfoRow, buildInfoOf}
-use Rattle.compiland.specs.Compile.{compile2, compile2Row, compile2Of, compile3, compile3Row, compile3Of}
-use Rattle.compiland.specs.Linkage.{publicSymbol, publicRow, publicOf, exportSymbol, exportRow, exportOf, trampoline, trampolineRow, trampolineSymbolOf}
-use Rattle.compiland.specs.Reference.{annotationReference, annotationReferenceOf, reference, referenceRow}
-use Rattle.data.specs.Variable.{registerVariable, registerVariableRow, registerVariableOf, userDefinedType, userDefinedTypeRow, userDefinedTypeOf}
-use Rattle.data.specs.Storage.{dataItem, dataRow, dataOf, threadStorage, threadStorageRow, threadStorageOf}
-use Rattle.data.specs.Local.{local, localRow, localOf, registerRelative, registerRelativeRow, registerRelativeOf}
-use Rattle.code.specs.Procedure.{procedure, procedureRow, procedureOf, label, labelRow, labelOf}
-use Rattle.code.specs.Block.{block, blockRow, blockOf, separatedCode, separatedCodeRow, separatedCodeOf}
-use Rattle.symbol.proofs.Rows.{row-name, row-no-name, NamedAt, EndsAt}
+use Rattle.code.specs.Block.{block, separatedCode}
+use Rattle.code.specs.Procedure.{procedure, label}
+use Rattle.compiland.specs.Compile.{compile2, compile3}
+use Rattle.compiland.specs.Linkage.{publicSymbol, exportSymbol, trampoline}
+use Rattle.compiland.specs.Object.{objName, buildInfo, usingNamespace}
+use Rattle.compiland.specs.Reference.{annotationReference, dataReference, procedureReference, optionalName}
+use Rattle.data.specs.Local.{local, registerRelative}
+use Rattle.data.specs.Storage.{dataItem, threadStorage}
+use Rattle.data.specs.Variable.{registerVariable, userDefinedType}
+use Rattle.code.proofs.Rows.{procedure-row, label-row, block-row, separated-code-row}
+use Rattle.compiland.proofs.Rows.{obj-name-row, public-row, compile2-row, compile3-row, annotation-reference-row, export-row, trampoline-row, build-info-row, data-reference-row, procedure-reference-row}
+use Rattle.data.proofs.Rows.{register-variable-row, user-defined-type-row, data-row, thread-storage-row, local-row, register-relative-row}
+use Rattle.symbol.specs.Name.{nameIn, answered}
+use Rattle.symbol.proofs.Rows.{NamedAt, EndsAt, named-row, tested-row, ended-row}
 
 pub obj-name-name : NamedAt Some 6 objName
-unfolding objName tailed
-obj-name-name kind = row-name Some objNameRow (symbolName kind) objNameOf (λ a n. refl)
+unfolding obj-name-row
+obj-name-name kind s = named-row (obj-name-row kind s) Some kind _ refl (λ n. refl)
 
 pub register-variable-name : NamedAt (λ n. None) 8 registerVariable
-unfolding registerVariable tailed
-register-variable-name kind = row-name (λ n. None) registerVariableRow (symbolName kind) registerVariableOf (λ a b n. refl)
+unfolding register-variable-row
+register-variable-name kind s = named-row (register-variable-row kind s) (λ n. None) kind _ refl (λ n. refl)
 
 pub user-defined-type-name : NamedAt Some 6 userDefinedType
-unfolding userDefinedType tailed
-user-defined-type-name kind = row-name Some userDefinedTypeRow (symbolName kind) userDefinedTypeOf (λ a n. refl)
+unfolding user-defined-type-row
+user-defined-type-name kind s = named-row (user-defined-type-row kind s) Some kind _ refl (λ n. refl)
 
 pub data-name : NamedAt Some 12 dataItem
-unfolding dataItem tailed
-data-name kind = row-name Some dataRow (symbolName kind) (dataOf kind) (λ a b c n. refl)
+unfolding data-row
+data-name kind s = named-row (data-row kind s) Some kind _ refl (λ n. refl)
 
 pub public-name : NamedAt Some 12 publicSymbol
-unfolding publicSymbol tailed
-public-name kind = row-name Some publicRow (symbolName kind) publicOf (λ a b c n. refl)
+unfolding public-row
+public-name kind s = named-row (public-row kind s) Some kind _ refl (λ n. refl)
 
 pub procedure-name : NamedAt Some 37 procedure
-unfolding procedure tailed
-procedure-name kind = row-name Some procedureRow (symbolName kind) (procedureOf kind) (λ a b c d e f g h i j n. refl)
+unfolding procedure-row
+procedure-name kind s = named-row (procedure-row kind s) Some kind _ refl (λ n. refl)
 
 pub thread-storage-name : NamedAt Some 12 threadStorage
-unfolding threadStorage tailed
-thread-storage-name kind = row-name Some threadStorageRow (symbolName kind) (threadStorageOf kind) (λ a b c n. refl)
+unfolding thread-storage-row
+thread-storage-name kind s = named-row (thread-storage-row kind s) Some kind _ refl (λ n. refl)
 
 pub compile2-name : NamedAt (λ n. None) 20 compile2
-unfolding compile2 tailed
-compile2-name kind = row-name (λ n. None) compile2Row (symbolName kind) compile2Of (λ a b c d e f g h i j n. refl)
+unfolding compile2-row
+compile2-name kind s = named-row (compile2-row kind s) (λ n. None) kind _ refl (λ n. refl)
 
 pub compile3-name : NamedAt (λ n. None) 24 compile3
-unfolding compile3 tailed
-compile3-name kind = row-name (λ n. None) compile3Row (symbolName kind) compile3Of (λ a b c d e f g h i j k l n. refl)
-
-pub using-namespace-name : NamedAt Some 2 usingNamespace
-unfolding usingNamespace tailed
-using-namespace-name kind = row-name Some usingNamespaceRow (symbolName kind) usingNamespaceOf (λ n. refl)
+unfolding compile3-row
+compile3-name kind s = named-row (compile3-row kind s) (λ n. None) kind _ refl (λ n. refl)
 
 pub annotation-reference-name : NamedAt Some 12 annotationReference
-unfolding annotationReference reference tailed
-annotation-reference-name kind = row-name Some referenceRow (symbolName kind) annotationReferenceOf (λ a b c n. refl)
+unfolding annotation-reference-row
+annotation-reference-name kind s = named-row (annotation-reference-row kind s) Some kind _ refl (λ n. refl)
 
 pub export-name : NamedAt Some 6 exportSymbol
-unfolding exportSymbol tailed
-export-name kind = row-name Some exportRow (symbolName kind) exportOf (λ a b n. refl)
+unfolding export-row
+export-name kind s = named-row (export-row kind s) Some kind _ refl (λ n. refl)
 
 pub local-name : NamedAt Some 8 local
-unfolding local tailed
-local-name kind = row-name Some localRow (symbolName kind) localOf (λ a b n. refl)
+unfolding local-row
+local-name kind s = named-row (local-row kind s) Some kind _ refl (λ n. refl)
 
 pub label-name : NamedAt Some 9 label
-unfolding label tailed
-label-name kind = row-name Some labelRow (symbolName kind) labelOf (λ a b c n. refl)
+unfolding label-row
+label-name kind s = named-row (label-row kind s) Some kind _ refl (λ n. refl)
 
 pub block-name : NamedAt Some 20 block
-unfolding block tailed
-block-name kind = row-name Some blockRow (symbolName kind) blockOf (λ a b c d e n. refl)
+unfolding block-row
+block-name kind s = named-row (block-row kind s) Some kind _ refl (λ n. refl)
 
 pub register-relative-name : NamedAt Some 12 registerRelative
-unfolding registerRelative tailed
-register-relative-name kind = row-name Some registerRelativeRow (symbolName kind) registerRelativeOf (λ a b c n. refl)
+unfolding register-relative-row
+register-relative-name kind s = named-row (register-relative-row kind s) Some kind _ refl (λ n. refl)
 
 pub trampoline-name : EndsAt 18 trampoline
-unfolding trampoline fixed
-trampoline-name = row-no-name trampolineRow trampolineSymbolOf (λ a b c d e f. refl)
+unfolding trampoline-row
+trampoline-name s = ended-row (trampoline-row s) _ refl refl
 
 pub build-info-name : EndsAt 6 buildInfo
-unfolding buildInfo fixed
-build-info-name = row-no-name buildInfoRow buildInfoOf (λ a. refl)
+unfolding build-info-row
+build-info-name s = ended-row (build-info-row s) _ refl refl
 
 pub separated-code-name : EndsAt 30 separatedCode
-unfolding separatedCode fixed
-separated-code-name = row-no-name separatedCodeRow separatedCodeOf (λ a b c d e f g h. refl)
+unfolding separated-code-row
+separated-code-name s = ended-row (separated-code-row s) _ refl refl
+
+-- no field stands before the name
+pub using-namespace-name : NamedAt Some 2 usingNamespace
+unfolding usingNamespace
+using-namespace-name kind s = go (symbolName kind s 2) refl
+  where
+    go : (r : Read Part) → symbolName kind s 2 ≡ r → answered Some r ≡ answered nameIn (usingNamespace kind s 2)
+    go (value name next) e = ap (answered nameIn) (sym (then-value (symbolName kind) _ s 2 e))
+    go (refused x) e = ap (answered nameIn) (sym (then-refused (symbolName kind) _ s 2 e))
+
+-- both sorts of references have the same name
+pub references-alike : (kind : ℕ) (s : List ℕ) → answered nameIn (dataReference kind s 2) ≡ answered nameIn (procedureReference kind s 2)
+unfolding data-reference-row procedure-reference-row
+references-alike kind s =
+    sym (tested-row (data-reference-row kind s) (λ o. o) (optionalName kind) _ refl (λ o. refl))
+    ∙ tested-row (procedure-reference-row kind s) (λ o. o) (optionalName kind) _ refl (λ o. refl)

@@ -1,62 +1,66 @@
--- The name of a record that is a fixed part and a name behind it, or nothing.
+-- The name of a record that is a row of fields, by what stands behind them.
 -- Assumes nothing.
-use Prim.Native.Nat.{ℕ, _+_, _≤_}
+use Prim.Native.Nat.{ℕ, _+_, _≤_, _<_}
 use mathlib.Core.Path.{_≡_, refl, ap, _∙_, sym}
-use mathlib.Core.List.{List, [], _∷_}
+use mathlib.Core.List.{List}
 use mathlib.Core.Bool.{Bool, true, false, cond}
-use borrow.Author.Tests.{ltb-true, ltb-false}
-use lib.ListN.{length}
-use lib.Dec.{ltb}
-use Rattle.common.specs.Bytes.{le}
-use Rattle.common.specs.Reader.{Read, value, refused, runsOut, Reader}
-use Rattle.common.specs.Row.{Fields, total, filled, behind}
-use Rattle.common.proofs.Rows.{tailed, fixed, behind-value, behind-refused, fixed-value, fixed-short-within}
+use native.Mathlib.Omega.{arith}
+use borrow.Author.Tests.{ltb-true, ltb-false, leb-true, leb-false, lt-ltb, le-ltb}
+use lib.ListN.{length, drop, drop-of-length-le}
+use lib.Dec.{ltb, leb}
+use Rattle.common.specs.Reader.{Read, value, refused, runsOut, Reader, done, _>>=_}
+use Rattle.common.specs.declared.Refusal.{Refusal}
+use Rattle.common.proofs.Rows.{Row, tail-value, tail-refused}
 use Rattle.names.specs.Name.{symbolName}
+use Rattle.names.proofs.Names.{name-short}
 use Rattle.names.specs.declared.Part.{Part}
 use Rattle.records.specs.declared.OptionPart.{OptionPart}
 use Rattle.records.specs.declared.OptionPart.the-variants.{None}
 use Rattle.records.specs.declared.SymbolData.{SymbolData}
-use Rattle.symbol.specs.Name.{nameIn, namedBy}
-use Rattle.symbol.specs.Behind.{answered, nothingBehind}
+use Rattle.symbol.specs.Name.{nameIn, answered}
+use Rattle.symbol.specs.declared.name.Named.{Named}
 use Rattle.symbol.specs.declared.name.Named.the-variants as N
 
--- whatever the numbers of the row are, the record's name is what f makes of b
-abbrev pub Names : {B : Type 0} → (B → OptionPart) → (ws : List ℕ) → Fields ws (B → SymbolData) → Type 0
-Names {B} f [] make = (b : B) → nameIn (make b) ≡ f b
-Names f (w ∷ ws) make = (x : ℕ) → Names f ws (make x)
-
-abbrev pub Unnamed : (ws : List ℕ) → Fields ws SymbolData → Type 0
-Unnamed [] make = nameIn make ≡ None
-Unnamed (w ∷ ws) make = (x : ℕ) → Unnamed ws (make x)
-
-named-filled : {B : Type 0} (f : B → OptionPart) (ws : List ℕ) (make : Fields ws (B → SymbolData)) → Names f ws make → (s : List ℕ) (at : ℕ) (b : B) → nameIn (filled ws make s at b) ≡ f b
-named-filled f [] make n s at b = n b
-named-filled f (w ∷ ws) make n s at b = named-filled f ws (make (le w s at)) (n (le w s at)) s (at + w) b
-
-unnamed-filled : (ws : List ℕ) (make : Fields ws SymbolData) → Unnamed ws make → (s : List ℕ) (at : ℕ) → nameIn (filled ws make s at) ≡ None
-unnamed-filled [] make n s at = n
-unnamed-filled (w ∷ ws) make n s at = unnamed-filled ws (make (le w s at)) (n (le w s at)) s (at + w)
-
--- a row that starts at 2, and what m reads behind it
-pub row-name : {B : Type 0} (f : B → OptionPart) (ws : List ℕ) (m : Reader B) (make : Fields ws (B → SymbolData)) → Names f ws make → (s : List ℕ) → 2 ≤ length s → answered f (behind m (2 + total ws) s) ≡ namedBy (tailed ws m make s 2)
-row-name {B} f ws m make n s g = go (behind m (2 + total ws) s) refl
-  where
-    go : (r : Read B) → behind m (2 + total ws) s ≡ r → answered f r ≡ namedBy (tailed ws m make s 2)
-    go (value b to) e = ap N.Answer (sym (named-filled f ws make n s 2 b)) ∙ ap namedBy (behind-value ws m make s 2 (sym e))
-    go (refused x) e = ap namedBy (behind-refused ws m make s 2 g (sym e))
-
--- a row that starts at 2, and nothing behind it
-pub row-no-name : (ws : List ℕ) (make : Fields ws SymbolData) → Unnamed ws make → (s : List ℕ) → 2 ≤ length s → nothingBehind (2 + total ws) s ≡ namedBy (fixed ws make s 2)
-unfolding nothingBehind
-row-no-name ws make n s g = go (ltb (length s) (2 + total ws)) refl
-  where
-    go : (b : Bool) → ltb (length s) (2 + total ws) ≡ b → cond b (N.Refused runsOut) (N.Answer None) ≡ namedBy (fixed ws make s 2)
-    go true e = ap namedBy (sym (fixed-short-within ws make s 2 g (ltb-true _ _ e)))
-    go false e = ap N.Answer (sym (unnamed-filled ws make n s 2)) ∙ ap namedBy (fixed-value ws make s 2 (ltb-false _ _ e))
-
--- the name of a layout is what f makes of what stands at a position; or nothing stands there
+-- the layout of a class has a name at a position, of which `find` makes the answer
 abbrev pub NamedAt : (Part → OptionPart) → ℕ → (ℕ → Reader SymbolData) → Type 0
-NamedAt f at layout = (kind : ℕ) (s : List ℕ) → 2 ≤ length s → answered f (behind (symbolName kind) at s) ≡ namedBy (layout kind s 2)
+NamedAt find at layout = (kind : ℕ) (s : List ℕ) → answered find (symbolName kind s at) ≡ answered nameIn (layout kind s 2)
 
+-- the fields of a class end at a position, and no name stands behind them
 abbrev pub EndsAt : ℕ → Reader SymbolData → Type 0
-EndsAt at layout = (s : List ℕ) → 2 ≤ length s → nothingBehind at s ≡ namedBy (layout s 2)
+EndsAt at layout = (s : List ℕ) → cond (ltb (length s) at) (N.Refused runsOut) (N.Answer None) ≡ answered nameIn (layout s 2)
+
+module _ {m : Reader SymbolData} {to : ℕ} {s : List ℕ} (row : Row m 2 to s) where
+  -- what t reads behind the fields decides, where they are there; `short` is what it says where they are not
+  tail-name : {B : Type 0} (find : B → OptionPart) (t : Reader B) (make : B → SymbolData) → row .tail ≡ (t >>= λ b. done (make b)) → ((b : B) → nameIn (make b) ≡ find b) → to ≤ length s → answered find (t s to) ≡ answered nameIn (m s 2)
+  tail-name {B} find t make behind named h = go (t s to) refl
+    where
+      go : (r : Read B) → t s to ≡ r → answered find r ≡ answered nameIn (m s 2)
+      go (value b next) e = ap N.Answer (sym (named b)) ∙ ap (answered nameIn) (tail-value row t make behind h (sym e))
+      go (refused x) e = ap (answered nameIn) (tail-refused row t make behind h (sym e))
+
+  pub named-row : (find : Part → OptionPart) (kind : ℕ) (make : Part → SymbolData) → row .tail ≡ (symbolName kind >>= λ name. done (make name)) → ((name : Part) → nameIn (make name) ≡ find name) → answered find (symbolName kind s to) ≡ answered nameIn (m s 2)
+  named-row find kind make behind named = go (leb to (length s)) refl
+    where
+      go : (b : Bool) → leb to (length s) ≡ b → answered find (symbolName kind s to) ≡ answered nameIn (m s 2)
+      go true e = tail-name find (symbolName kind) make behind named (leb-true to (length s) e)
+      go false e =
+          let h = leb-false to (length s) e in
+          ap (answered find) (name-short kind s to h) ∙ ap (answered nameIn) (sym (row .short h))
+
+  -- the room of the fields is tested first
+  pub tested-row : {B : Type 0} (find : B → OptionPart) (t : Reader B) (make : B → SymbolData) → row .tail ≡ (t >>= λ b. done (make b)) → ((b : B) → nameIn (make b) ≡ find b) → cond (ltb (length s) to) (N.Refused runsOut) (answered find (t s to)) ≡ answered nameIn (m s 2)
+  tested-row find t make behind named = go (ltb (length s) to) refl
+    where
+      go : (b : Bool) → ltb (length s) to ≡ b → cond b (N.Refused runsOut) (answered find (t s to)) ≡ answered nameIn (m s 2)
+      go true e = ap (answered nameIn) (sym (row .short (ltb-true (length s) to e)))
+      go false e = tail-name find t make behind named (ltb-false (length s) to e)
+
+  -- nothing stands behind the fields
+  pub ended-row : (d : SymbolData) → row .tail ≡ done d → nameIn d ≡ None → cond (ltb (length s) to) (N.Refused runsOut) (N.Answer None) ≡ answered nameIn (m s 2)
+  ended-row d behind unnamed = go (ltb (length s) to) refl
+    where
+      go : (b : Bool) → ltb (length s) to ≡ b → cond b (N.Refused runsOut) (N.Answer None) ≡ answered nameIn (m s 2)
+      go true e = ap (answered nameIn) (sym (row .short (ltb-true (length s) to e)))
+      go false e =
+          ap N.Answer (sym unnamed)
+          ∙ ap (answered nameIn) (sym (row .there (ltb-false (length s) to e) ∙ ap (λ (r : Reader SymbolData). r s to) behind))

@@ -9,7 +9,7 @@ use Rattle.constants.specs.Kind.{classOf}
 use Rattle.constants.specs.declared.Class.{Class}
 use Rattle.constants.specs.declared.Class.the-variants.{Unknown, ScopeEnd, ObjName, RegisterVariable, Constant, UserDefinedType, MultiRegisterVariable, Data, Public, Procedure, ThreadStorage, CompileFlags, UsingNamespace, ProcedureReference, DataReference, AnnotationReference, Trampoline, Export, Local, BuildInfo, InlineSite, InlineSiteEnd, ProcedureEnd, Label, Block, RegisterRelative, Thunk, SeparatedCode}
 use Rattle.records.specs.declared.SymbolData.{SymbolData}
-use Rattle.compiland.specs.Module.{objName, usingNamespace, buildInfo}
+use Rattle.compiland.specs.Object.{objName, usingNamespace, buildInfo}
 use Rattle.compiland.specs.Compile.{compile}
 use Rattle.data.specs.Variable.{registerVariable, constant, userDefinedType}
 use Rattle.data.specs.Storage.{dataItem, threadStorage}

@@ -1,4 +1,3 @@
-pub mod Behind
 pub mod Name
 pub mod Entry
 pub mod Decode

@@ -40,10 +40,10 @@ nameIn (D.RegisterRelative x) = Some (x .name)
 nameIn (D.Thunk x) = Some (x .name)
 nameIn (D.SeparatedCode x) = None
 
--- the answer that a decoded record, or its refusal, gives
-abbrev pub namedBy : Read SymbolData → Named
-namedBy (value d consumed) = N.Answer (nameIn d)
-namedBy (refused e) = N.Refused e
+-- the answer that what was read gives: the name that `find` finds in it, or the refusal
+abbrev pub answered : {B : Type 0} → (B → OptionPart) → Read B → Named
+answered find (value b to) = N.Answer (find b)
+answered find (refused e) = N.Refused e
 
 unfoldable pub nameOf : List ℕ → Named
-nameOf s = namedBy (decode s)
+nameOf s = answered nameIn (decode s)

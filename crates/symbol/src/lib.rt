@@ -3,16 +3,12 @@ pub mod name;
 pub mod register_entry;
 
 ghost use mathlib.Core.Path.{_≡_};
-ghost use Prim.Native.Nat.{_≤_};
-ghost use lib.ListN.{length};
 ghost use Rattle.common.specs.Reader.{refused, refusal};
 ghost use Rattle.constants.specs.Kind.{classOf};
 ghost use Rattle.records.specs.Answer.{decodedOf};
-ghost use Rattle.compiland.specs.Compile.{compile};
 ghost use Rattle.symbol.specs.Decode.{layout, decode};
 use common::Refusal;
 use constants::Class;
-use constants::S_COMPILE3;
 use records::Decoded;
 
 // The longest record that is decoded.
@@ -24,20 +20,8 @@ fn unimplemented(kind: u16) -> Decoded
     Decoded::Refused(Refusal::of(Refusal::UNIMPLEMENTED_KIND, kind))
 }
 
-// S_COMPILE3 is a layout of its own.
-fn parse_compile_flags(s: &[u8], kind: u16) -> Decoded
-    requires { ⌜ 2 ≤ length (now s) ⌝ }
-    ensures { λ r. ⌜ decodedOf r ≡ compile kind (now (s .entry)) 2 ⌝ }
-{
-    if kind == S_COMPILE3 {
-        return compiland::compile::parse_compile3(s, kind);
-    }
-    compiland::compile::parse_compile2(s, kind)
-}
-
 // Decodes a record whose kind was read, by the layout of its class.
 fn parse_by_kind(s: &[u8], kind: u16) -> Decoded
-    requires { ⌜ 2 ≤ length (now s) ⌝ }
     ensures { λ r. ⌜ decodedOf r ≡ layout (classOf kind) kind (now (s .entry)) 2 ⌝ }
 {
     match constants::class_of(kind) {
@@ -52,7 +36,7 @@ fn parse_by_kind(s: &[u8], kind: u16) -> Decoded
         Class::Public => return compiland::linkage::parse_public(s, kind),
         Class::Procedure => return code::procedure::parse_procedure(s, kind),
         Class::ThreadStorage => return data::storage::parse_thread_storage(s, kind),
-        Class::CompileFlags => return parse_compile_flags(s, kind),
+        Class::CompileFlags => return compiland::compile::parse_compile_flags(s, kind),
         Class::UsingNamespace => return compiland::object::parse_using_namespace(s, kind),
         Class::ProcedureReference => return compiland::reference::parse_procedure_reference(
             s,

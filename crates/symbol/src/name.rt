@@ -1,30 +1,32 @@
 // The name of a record (pdb's SymbolData::name), found without building the typed record.
 ghost use mathlib.Core.Path.{_≡_};
-ghost use Prim.Native.Nat.{_≤_};
+ghost use mathlib.Core.Bool.{cond};
 ghost use lib.ListN.{length};
-ghost use Rattle.common.specs.Row.{behind};
+ghost use lib.Dec.{ltb};
+ghost use Rattle.common.specs.Reader.{runsOut};
 ghost use Rattle.names.specs.Name.{symbolName};
 ghost use Rattle.records.specs.declared.OptionPart.the-variants.{None, Some};
-ghost use Rattle.compiland.specs.Reference.{optionalName};
 ghost use Rattle.constants.specs.Kind.{classOf};
-ghost use Rattle.symbol.specs.Decode.{layout};
-ghost use Rattle.compiland.specs.Compile.{compile};
 ghost use Rattle.registers.specs.Registers.{multiRegisterVariable};
+ghost use Rattle.data.specs.Variable.{constant};
+ghost use Rattle.compiland.specs.Compile.{compile};
+ghost use Rattle.compiland.specs.Reference.{dataReference};
 ghost use Rattle.code.specs.Inline.{inlineSite};
 ghost use Rattle.code.specs.Thunk.{thunk};
-ghost use Rattle.data.specs.Variable.{constant};
-ghost use Rattle.symbol.specs.Name.{nameOf, namedBy};
+ghost use Rattle.symbol.specs.Decode.{layout};
+ghost use Rattle.symbol.specs.Name.{nameIn, answered, nameOf};
 ghost use Rattle.symbol.specs.Bytes.{IsName};
-ghost use Rattle.symbol.specs.Behind.{answered, nothingBehind, entriesBehind};
 use code::block::BLOCK_NAME;
 use code::block::SEPARATED_CODE_END;
-use code::inline_site::COUNTED_ANNOTATIONS;
-use code::inline_site::PLAIN_ANNOTATIONS;
+use code::inline_site::INVOCATIONS;
+use code::inline_site::ParsedInvocations;
 use code::procedure::LABEL_NAME;
 use code::procedure::PROCEDURE_NAME;
 use code::thunk::ParsedThunkKind;
 use code::thunk::THUNK_NAME;
+use code::thunk::THUNK_VARIANT;
 use common::Refusal;
+use common::unsigned::ParsedU16;
 use compiland::compile::COMPILE2_VERSION;
 use compiland::compile::COMPILE3_VERSION;
 use compiland::linkage::EXPORT_NAME;
@@ -37,9 +39,6 @@ use compiland::reference::ParsedOptionPart;
 use compiland::reference::REFERENCE_NAME;
 use constants::Class;
 use constants::S_COMPILE3;
-use constants::S_INLINESITE2;
-use constants::S_MANYREG2;
-use constants::S_MANYREG2_ST;
 use data::local::LOCAL_NAME;
 use data::local::REGISTER_RELATIVE_NAME;
 use data::storage::DATA_NAME;
@@ -49,8 +48,7 @@ use data::variable::REGISTER_VARIABLE_NAME;
 use data::variable::USER_DEFINED_TYPE_NAME;
 use names::ParsedPart;
 use records::OptionPart;
-use registers::LONG_LIST;
-use registers::SHORT_LIST;
+use registers::REGISTER_COUNT;
 use registers::entry::Skipped;
 use variant::ParsedVariant;
 
@@ -60,11 +58,11 @@ pub enum Named {
     Refused(Refusal),
 }
 
-// A record whose name stands behind its fields.
+// A record whose name stands at a position.
 fn named_record(s: &[u8], at: usize, kind: u16) -> Named
-    ensures { λ r. ⌜ r ≡ answered Some (behind (symbolName kind) at (now (s .entry))) ⌝ }
+    ensures { λ r. ⌜ r ≡ answered Some (symbolName kind (now (s .entry)) at) ⌝ }
 {
-    match names::name_behind(s, at, kind) {
+    match names::parse_symbol_name(s, at, kind) {
         ParsedPart::Value(name, _) => Named::Answer(OptionPart::Some(name)),
         ParsedPart::Refused(e) => Named::Refused(e),
     }
@@ -72,27 +70,17 @@ fn named_record(s: &[u8], at: usize, kind: u16) -> Named
 
 // A record whose bytes hold a name that is not answered.
 fn unnamed_record(s: &[u8], at: usize, kind: u16) -> Named
-    ensures { λ r. ⌜ r ≡ answered (λ n. None) (behind (symbolName kind) at (now (s .entry))) ⌝ }
+    ensures { λ r. ⌜ r ≡ answered (λ n. None) (symbolName kind (now (s .entry)) at) ⌝ }
 {
-    match names::name_behind(s, at, kind) {
+    match names::parse_symbol_name(s, at, kind) {
         ParsedPart::Value(_, _) => Named::Answer(OptionPart::None),
         ParsedPart::Refused(e) => Named::Refused(e),
     }
 }
 
-// A reference: records of old kinds have no name.
-fn reference_name(s: &[u8], kind: u16) -> Named
-    ensures { λ r. ⌜ r ≡ answered (λ o. o) (behind (optionalName kind) 12 (now (s .entry))) ⌝ }
-{
-    match compiland::reference::parse_optional_name(s, kind) {
-        ParsedOptionPart::Value(name, _) => Named::Answer(name),
-        ParsedOptionPart::Refused(e) => Named::Refused(e),
-    }
-}
-
-// A record whose fields end at a position, where nothing that is a name stands behind them.
-fn nothing_behind(s: &[u8], at: usize) -> Named
-    ensures { λ r. ⌜ r ≡ nothingBehind at (now (s .entry)) ⌝ }
+// A record whose fields end at a position, with nothing behind them that is a name.
+fn nameless_record(s: &[u8], at: usize) -> Named
+    ensures { λ r. ⌜ r ≡ cond (ltb (length (now (s .entry))) at) (Named.Refused runsOut) (Named.Answer None) ⌝ }
 {
     if s.len() < at {
         Named::Refused(Refusal::RUNS_OUT)
@@ -101,10 +89,22 @@ fn nothing_behind(s: &[u8], at: usize) -> Named
     }
 }
 
+// A reference to data, and to a procedure alike.
+fn reference_name(s: &[u8], kind: u16) -> Named
+    ensures { λ r. ⌜ r ≡ answered nameIn (dataReference kind (now (s .entry)) 2) ⌝ }
+{
+    if s.len() < REFERENCE_NAME {
+        return Named::Refused(Refusal::RUNS_OUT);
+    }
+    match compiland::reference::parse_optional_name(s, REFERENCE_NAME, kind) {
+        ParsedOptionPart::Value(name, _) => Named::Answer(name),
+        ParsedOptionPart::Refused(e) => Named::Refused(e),
+    }
+}
+
 // Compile flags have a version string, which is no name.
 fn compile_name(s: &[u8], kind: u16) -> Named
-    requires { ⌜ 2 ≤ length (now s) ⌝ }
-    ensures { λ r. ⌜ r ≡ namedBy (compile kind (now (s .entry)) 2) ⌝ }
+    ensures { λ r. ⌜ r ≡ answered nameIn (compile kind (now (s .entry)) 2) ⌝ }
 {
     if kind == S_COMPILE3 {
         return unnamed_record(s, COMPILE3_VERSION, kind);
@@ -113,42 +113,37 @@ fn compile_name(s: &[u8], kind: u16) -> Named
 }
 
 fn inline_site_name(s: &[u8], kind: u16) -> Named
-    requires { ⌜ 2 ≤ length (now s) ⌝ }
-    ensures { λ r. ⌜ r ≡ namedBy (inlineSite kind (now (s .entry)) 2) ⌝ }
+    ensures { λ r. ⌜ r ≡ answered nameIn (inlineSite kind (now (s .entry)) 2) ⌝ }
 {
-    if kind == S_INLINESITE2 {
-        return nothing_behind(s, COUNTED_ANNOTATIONS);
-    }
-    nothing_behind(s, PLAIN_ANNOTATIONS)
-}
-
-// A register list whose count was found: its names are those of the entries.
-fn entries_behind(s: &[u8], first: usize, kind: u16, count: u16) -> Named
-    ensures { λ r. ⌜ r ≡ entriesBehind first kind count (now (s .entry)) ⌝ }
-{
-    match registers::entry::skip_entries(s, first, kind, count) {
-        Skipped::At(_) => Named::Answer(OptionPart::None),
-        Skipped::Refused(e) => Named::Refused(e),
-    }
-}
-
-fn register_list_name(s: &[u8], kind: u16) -> Named
-    ensures { λ r. ⌜ r ≡ namedBy (multiRegisterVariable kind (now (s .entry)) 2) ⌝ }
-{
-    if (kind == S_MANYREG2) | (kind == S_MANYREG2_ST) {
-        if s.len() < LONG_LIST {
-            return Named::Refused(Refusal::RUNS_OUT);
-        }
-        return entries_behind(s, LONG_LIST, kind, common::u16_at(s, 6));
-    }
-    if s.len() < SHORT_LIST {
+    if s.len() < INVOCATIONS {
         return Named::Refused(Refusal::RUNS_OUT);
     }
-    entries_behind(s, SHORT_LIST, kind, common::u8_at(s, 6) as u16)
+    match code::inline_site::parse_invocations(s, INVOCATIONS, kind) {
+        ParsedInvocations::Value(_, _) => Named::Answer(OptionPart::None),
+        ParsedInvocations::Refused(e) => Named::Refused(e),
+    }
+}
+
+// The names of a register list are those of its entries.
+fn register_list_name(s: &[u8], kind: u16) -> Named
+    ensures { λ r. ⌜ r ≡ answered nameIn (multiRegisterVariable kind (now (s .entry)) 2) ⌝ }
+{
+    if s.len() < REGISTER_COUNT {
+        return Named::Refused(Refusal::RUNS_OUT);
+    }
+    match registers::parse_register_count(s, REGISTER_COUNT, kind) {
+        ParsedU16::Value(count, first) => {
+            match registers::entry::skip_entries(s, first, kind, count) {
+                Skipped::At(_) => Named::Answer(OptionPart::None),
+                Skipped::Refused(e) => Named::Refused(e),
+            }
+        }
+        ParsedU16::Refused(e) => Named::Refused(e),
+    }
 }
 
 fn constant_name(s: &[u8], kind: u16) -> Named
-    ensures { λ r. ⌜ r ≡ namedBy (constant kind (now (s .entry)) 2) ⌝ }
+    ensures { λ r. ⌜ r ≡ answered nameIn (constant kind (now (s .entry)) 2) ⌝ }
 {
     if s.len() < CONSTANT_VALUE {
         return Named::Refused(Refusal::RUNS_OUT);
@@ -163,14 +158,14 @@ fn constant_name(s: &[u8], kind: u16) -> Named
 }
 
 fn thunk_name(s: &[u8], kind: u16) -> Named
-    ensures { λ r. ⌜ r ≡ namedBy (thunk kind (now (s .entry)) 2) ⌝ }
+    ensures { λ r. ⌜ r ≡ answered nameIn (thunk kind (now (s .entry)) 2) ⌝ }
 {
     if s.len() < THUNK_NAME {
         return Named::Refused(Refusal::RUNS_OUT);
     }
     match names::parse_symbol_name(s, THUNK_NAME, kind) {
         ParsedPart::Value(name, at) => {
-            match code::thunk::parse_thunk_kind(s, at, common::u8_at(s, 22)) {
+            match code::thunk::parse_thunk_kind(s, at, common::u8_at(s, THUNK_VARIANT)) {
                 ParsedThunkKind::Value(_, _) => Named::Answer(OptionPart::Some(name)),
                 ParsedThunkKind::Refused(e) => Named::Refused(e),
             }
@@ -181,8 +176,7 @@ fn thunk_name(s: &[u8], kind: u16) -> Named
 
 // The name of a record whose kind was read.
 fn name_by_kind(s: &[u8], kind: u16) -> Named
-    requires { ⌜ 2 ≤ length (now s) ⌝ }
-    ensures { λ r. ⌜ r ≡ namedBy (layout (classOf kind) kind (now (s .entry)) 2) ⌝ }
+    ensures { λ r. ⌜ r ≡ answered nameIn (layout (classOf kind) kind (now (s .entry)) 2) ⌝ }
 {
     match constants::class_of(kind) {
         Class::Unknown => Named::Refused(Refusal::of(Refusal::UNIMPLEMENTED_KIND, kind)),
@@ -201,10 +195,10 @@ fn name_by_kind(s: &[u8], kind: u16) -> Named
         Class::ProcedureReference => reference_name(s, kind),
         Class::DataReference => reference_name(s, kind),
         Class::AnnotationReference => named_record(s, REFERENCE_NAME, kind),
-        Class::Trampoline => nothing_behind(s, TRAMPOLINE_END),
+        Class::Trampoline => nameless_record(s, TRAMPOLINE_END),
         Class::Export => named_record(s, EXPORT_NAME, kind),
         Class::Local => named_record(s, LOCAL_NAME, kind),
-        Class::BuildInfo => nothing_behind(s, BUILD_INFO_END),
+        Class::BuildInfo => nameless_record(s, BUILD_INFO_END),
         Class::InlineSite => inline_site_name(s, kind),
         Class::InlineSiteEnd => Named::Answer(OptionPart::None),
         Class::ProcedureEnd => Named::Answer(OptionPart::None),
@@ -212,7 +206,7 @@ fn name_by_kind(s: &[u8], kind: u16) -> Named
         Class::Block => named_record(s, BLOCK_NAME, kind),
         Class::RegisterRelative => named_record(s, REGISTER_RELATIVE_NAME, kind),
         Class::Thunk => thunk_name(s, kind),
-        Class::SeparatedCode => nothing_behind(s, SEPARATED_CODE_END),
+        Class::SeparatedCode => nameless_record(s, SEPARATED_CODE_END),
     }
 }
 

@@ -5,10 +5,8 @@ ghost use Rattle.symbol.specs.Entry.{isList, countedEntry, listEntry, re
 ghost use Rattle.common.specs.Reader.{refused, refusal};
 use super::name::Named;
 use common::Refusal;
-use constants::S_MANYREG2;
-use constants::S_MANYREG2_ST;
-use registers::LONG_LIST;
-use registers::SHORT_LIST;
+use common::unsigned::ParsedU16;
+use registers::REGISTER_COUNT;
 use registers::entry::ParsedEntry;
 
 fn nothing_there() -> ParsedEntry
@@ -38,16 +36,12 @@ fn counted_entry(s: &[u8], first: usize, kind: u16, count: u16, k: usize) -> Par
 fn list_entry(s: &[u8], kind: u16, k: usize) -> ParsedEntry
     ensures { λ r. ⌜ entryOf r ≡ listEntry kind k (now (s .entry)) 2 ⌝ }
 {
-    if (kind == S_MANYREG2) | (kind == S_MANYREG2_ST) {
-        if s.len() < LONG_LIST {
-            return ParsedEntry::Refused(Refusal::RUNS_OUT);
-        }
-        counted_entry(s, LONG_LIST, kind, common::u16_at(s, 6), k)
-    } else {
-        if s.len() < SHORT_LIST {
-            return ParsedEntry::Refused(Refusal::RUNS_OUT);
-        }
-        counted_entry(s, SHORT_LIST, kind, common::u8_at(s, 6) as u16, k)
+    if s.len() < REGISTER_COUNT {
+        return ParsedEntry::Refused(Refusal::RUNS_OUT);
+    }
+    match registers::parse_register_count(s, REGISTER_COUNT, kind) {
+        ParsedU16::Value(count, first) => counted_entry(s, first, kind, count, k),
+        ParsedU16::Refused(e) => ParsedEntry::Refused(e),
     }
 }
 

@@ -10,32 +10,11 @@ use Rattle.code.proofs.block.parse_block.Tie as tie
 returns : tie.Need-returns
 returns c = sym (block-row _ _ .short (c .if1 .taken))
 
-parse-symbol-name-requires : tie.Need-parse-symbol-name-requires
-parse-symbol-name-requires c κs = search needs
-
-enum-known-name : tie.Need-enum-known-name
-enum-known-name c = search needs
-
-u32-at-requires : tie.Need-u32-at-requires
-u32-at-requires c κs = search needs
-
-u32-at-requires-2 : tie.Need-u32-at-requires-2
-u32-at-requires-2 c κs = search needs
-
-u32-at-requires-3 : tie.Need-u32-at-requires-3
-u32-at-requires-3 c κs = search needs
-
-place-at-requires : tie.Need-place-at-requires
-place-at-requires c κs = search needs
-
 returns-2 : tie.Need-returns-2
 unfolding block-row
 returns-2 c =
     rw (c .place-at .ensures, c .before .u32-at3 .ensures, c .before .before .u32-at2 .ensures, c .before .before .before .u32-at .ensures)
     (named-value (block-row _ _) _ _ refl (c .before .before .before .before .before .before .before .before .if1 .left) (c .before .before .before .before .before .before .before .parse-symbol-name .ensures) (c .before .before .before .before .before .name .given .1))
-
-enum-known-e : tie.Need-enum-known-e
-enum-known-e c = search needs
 
 returns-3 : tie.Need-returns-3
 unfolding block-row
@@ -47,12 +26,12 @@ parse-block-spec =
     tie.close
     (tie.spec
     returns
-    parse-symbol-name-requires
-    enum-known-name
-    u32-at-requires
-    u32-at-requires-2
-    u32-at-requires-3
-    place-at-requires
+    (λ c κs. search needs)
+    (λ c. search needs)
+    (λ c κs. search needs)
+    (λ c κs. search needs)
+    (λ c κs. search needs)
+    (λ c κs. search needs)
     returns-2
-    enum-known-e
+    (λ c. search needs)
     returns-3)

@@ -9,33 +9,6 @@ use Rattle.code.proofs.block.parse_separated_code.Tie as tie
 returns : tie.Need-returns
 returns c = sym (separated-code-row _ .short (c .if1 .taken))
 
-u32-at-requires : tie.Need-u32-at-requires
-u32-at-requires c κs = search needs
-
-u32-at-requires-2 : tie.Need-u32-at-requires-2
-u32-at-requires-2 c κs = search needs
-
-u32-at-requires-3 : tie.Need-u32-at-requires-3
-u32-at-requires-3 c κs = search needs
-
-u32-at-requires-4 : tie.Need-u32-at-requires-4
-u32-at-requires-4 c κs = search needs
-
-from-bits-requires : tie.Need-from-bits-requires
-from-bits-requires c κs = search needs
-
-u32-at-requires-5 : tie.Need-u32-at-requires-5
-u32-at-requires-5 c κs = search needs
-
-u16-at-requires : tie.Need-u16-at-requires
-u16-at-requires c κs = search needs
-
-u32-at-requires-6 : tie.Need-u32-at-requires-6
-u32-at-requires-6 c κs = search needs
-
-u16-at-requires-2 : tie.Need-u16-at-requires-2
-u16-at-requires-2 c κs = search needs
-
 returns-2 : tie.Need-returns-2
 unfolding separated-code-row
 returns-2 c =
@@ -47,13 +20,13 @@ parse-separated-code-spec =
     tie.close
     (tie.spec
     returns
-    u32-at-requires
-    u32-at-requires-2
-    u32-at-requires-3
-    u32-at-requires-4
-    from-bits-requires
-    u32-at-requires-5
-    u16-at-requires
-    u32-at-requires-6
-    u16-at-requires-2
+    (λ c κs. search needs)
+    (λ c κs. search needs)
+    (λ c κs. search needs)
+    (λ c κs. search needs)
+    (λ c κs. search needs)
+    (λ c κs. search needs)
+    (λ c κs. search needs)
+    (λ c κs. search needs)
+    (λ c κs. search needs)
     returns-2)

@@ -13,21 +13,6 @@ use Rattle.code.proofs.inline_site.parse_inline_site.Tie as tie
 returns : tie.Need-returns
 returns c = sym (inline-site-row _ _ .short (c .if1 .taken))
 
-parse-invocations-requires : tie.Need-parse-invocations-requires
-parse-invocations-requires c κs = search needs
-
-enum-known-invocations : tie.Need-enum-known-invocations
-enum-known-invocations c = search needs
-
-index-at-requires : tie.Need-index-at-requires
-index-at-requires c κs = search needs
-
-u32-at-requires : tie.Need-u32-at-requires
-u32-at-requires c κs = search needs
-
-u32-at-requires-2 : tie.Need-u32-at-requires-2
-u32-at-requires-2 c κs = search needs
-
 sub-t15 : tie.Need-sub-t15
 sub-t15 c =
     let i = c .before .before .before .before in
@@ -42,9 +27,6 @@ returns-2 c =
     rw (c .u32-at2 .ensures, c .before .u32-at .ensures, c .before .before .index-at .ensures)
     (both-value (inline-site-row _ _) (invocations _) rest _ refl (p .before .if1 .left) (sym (ap invocationsOf (i .invocations .given .1)) ∙ p .parse-invocations .ensures) refl)
 
-enum-known-e : tie.Need-enum-known-e
-enum-known-e c = search needs
-
 returns-3 : tie.Need-returns-3
 unfolding inline-site-row
 returns-3 c =
@@ -56,12 +38,12 @@ parse-inline-site-spec =
     tie.close
     (tie.spec
     returns
-    parse-invocations-requires
-    enum-known-invocations
-    index-at-requires
-    u32-at-requires
-    u32-at-requires-2
+    (λ c κs. search needs)
+    (λ c. search needs)
+    (λ c κs. search needs)
+    (λ c κs. search needs)
+    (λ c κs. search needs)
     sub-t15
     returns-2
-    enum-known-e
+    (λ c. search needs)
     returns-3)

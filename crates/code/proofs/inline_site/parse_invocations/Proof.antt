@@ -10,15 +10,6 @@ use Rattle.code.proofs.inline_site.parse_invocations.Tie as tie
 returns : tie.Need-returns
 returns c = uncounted _ _ _ (c .if1 .taken)
 
-parse-u32-requires : tie.Need-parse-u32-requires
-parse-u32-requires c κs = search needs
-
-enum-known-count : tie.Need-enum-known-count
-enum-known-count c = search needs
-
-enum-known-e : tie.Need-enum-known-e
-enum-known-e c = search needs
-
 returns-2 : tie.Need-returns-2
 returns-2 c =
     let p = c .before .before .before in
@@ -32,4 +23,4 @@ returns-3 c =
 pub parse-invocations-spec : {M : Type 1} → statement M
 parse-invocations-spec =
     tie.close
-    (tie.spec returns parse-u32-requires enum-known-count enum-known-e returns-2 returns-3)
+    (tie.spec returns (λ c κs. search needs) (λ c. search needs) (λ c. search needs) returns-2 returns-3)

@@ -10,29 +10,11 @@ use Rattle.code.proofs.procedure.parse_label.Tie as tie
 returns : tie.Need-returns
 returns c = sym (label-row _ _ .short (c .if1 .taken))
 
-parse-symbol-name-requires : tie.Need-parse-symbol-name-requires
-parse-symbol-name-requires c κs = search needs
-
-enum-known-name : tie.Need-enum-known-name
-enum-known-name c = search needs
-
-place-at-requires : tie.Need-place-at-requires
-place-at-requires c κs = search needs
-
-u8-at-requires : tie.Need-u8-at-requires
-u8-at-requires c κs = search needs
-
-from-bits-requires : tie.Need-from-bits-requires
-from-bits-requires c κs = search needs
-
 returns-2 : tie.Need-returns-2
 unfolding label-row
 returns-2 c =
     rw (c .from-bits .ensures, c .before .u8-at .ensures, c .before .before .place-at .ensures)
     (named-value (label-row _ _) _ _ refl (c .before .before .before .before .before .before .before .if1 .left) (c .before .before .before .before .before .before .parse-symbol-name .ensures) (c .before .before .before .before .name .given .1))
-
-enum-known-e : tie.Need-enum-known-e
-enum-known-e c = search needs
 
 returns-3 : tie.Need-returns-3
 unfolding label-row
@@ -44,11 +26,11 @@ parse-label-spec =
     tie.close
     (tie.spec
     returns
-    parse-symbol-name-requires
-    enum-known-name
-    place-at-requires
-    u8-at-requires
-    from-bits-requires
+    (λ c κs. search needs)
+    (λ c. search needs)
+    (λ c κs. search needs)
+    (λ c κs. search needs)
+    (λ c κs. search needs)
     returns-2
-    enum-known-e
+    (λ c. search needs)
     returns-3)

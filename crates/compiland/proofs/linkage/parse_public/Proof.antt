@@ -1,28 +1,36 @@
 -- `compiland::linkage::parse_public` meets its contract.
 -- Assumes nothing.
 use borrow.Author.Needs.{needs}
-use Rattle.common.proofs.Rows.{tailed}
-use Rattle.records.proofs.Named.{named-room, named-value, named-refused}
-use Rattle.compiland.specs.Linkage.{publicRow, publicOf, publicSymbol}
+use mathlib.Core.Path.{refl, sym}
+use Rattle.names.proofs.Rows.{named-value, named-refused}
+use Rattle.compiland.proofs.Rows.{public-row}
 use Rattle.compiland.proofs.linkage.parse_public.Statement.{statement}
 use Rattle.compiland.proofs.linkage.parse_public.Tie as tie
 
-public-symbol-requires : tie.Need-public-symbol-requires
-public-symbol-requires c κs = named-room _ _ _ (c .before .name .given .1) (c .before .before .before .name-behind .ensures)
-
 returns : tie.Need-returns
-unfolding publicSymbol tailed
-returns c =
-    let n = c .before .before in
-    named-value _ _ publicRow publicOf (n .name .given .1) (n .before .before .name-behind .ensures) (c .public-symbol .ensures)
+returns c = sym (public-row _ _ .short (c .if1 .taken))
 
 returns-2 : tie.Need-returns-2
-unfolding publicSymbol tailed
+unfolding public-row
 returns-2 c =
-    let p = c .before .before .before in
-    named-refused _ _ publicRow publicOf (c .before .e .given .1) (p .name-behind .ensures) (p .before .before .pre)
+    rw (c .place-at .ensures, c .before .from-bits .ensures, c .before .before .u32-at .ensures)
+    (named-value (public-row _ _) _ _ refl (c .before .before .before .before .before .before .before .if1 .left) (c .before .before .before .before .before .before .parse-symbol-name .ensures) (c .before .before .before .before .name .given .1))
+
+returns-3 : tie.Need-returns-3
+unfolding public-row
+returns-3 c =
+    named-refused (public-row _ _) _ _ refl (c .before .before .before .before .if1 .left) (c .before .before .before .parse-symbol-name .ensures) (c .before .e .given .1)
 
 pub parse-public-spec : {M : Type 1} → statement M
 parse-public-spec =
     tie.close
-    (tie.spec (λ c κs. search needs) (λ c. search needs) public-symbol-requires returns (λ c. search needs) returns-2)
+    (tie.spec
+    returns
+    (λ c κs. search needs)
+    (λ c. search needs)
+    (λ c κs. search needs)
+    (λ c κs. search needs)
+    (λ c κs. search needs)
+    returns-2
+    (λ c. search needs)
+    returns-3)

@@ -1,19 +1,30 @@
 -- `compiland::linkage::parse_trampoline` meets its contract.
 -- Assumes nothing.
-use mathlib.Core.Path.{sym, _∙_}
-use Rattle.common.proofs.Rows.{fixed, fixed-value, fixed-short-within}
-use Rattle.records.proofs.Named.{told}
-use Rattle.compiland.specs.Linkage.{trampolineRow, trampolineSymbolOf, trampoline}
+use borrow.Author.Needs.{needs}
+use mathlib.Core.Path.{sym}
+use Rattle.compiland.proofs.Rows.{trampoline-row}
 use Rattle.compiland.proofs.linkage.parse_trampoline.Statement.{statement}
 use Rattle.compiland.proofs.linkage.parse_trampoline.Tie as tie
 
 returns : tie.Need-returns
-unfolding trampoline fixed
-returns c = sym (fixed-short-within trampolineRow trampolineSymbolOf _ 2 (c .before .before .pre) (c .if1 .taken))
+returns c = sym (trampoline-row _ .short (c .if1 .taken))
 
 returns-2 : tie.Need-returns-2
-unfolding trampoline fixed
-returns-2 c = told (c .trampoline .ensures) ∙ fixed-value trampolineRow trampolineSymbolOf _ 2 (c .before .if1 .left)
+unfolding trampoline-row
+returns-2 c =
+    rw (c .u16-at4 .ensures, c .before .u32-at2 .ensures, c .before .before .u16-at3 .ensures, c .before .before .before .u32-at .ensures, c .before .before .before .before .u16-at2 .ensures, c .before .before .before .before .before .trampoline-type .ensures, c .before .before .before .before .before .before .u16-at .ensures)
+    (sym (trampoline-row _ .there (c .before .before .before .before .before .before .before .if1 .left)))
 
 pub parse-trampoline-spec : {M : Type 1} → statement M
-parse-trampoline-spec = tie.close (tie.spec returns (λ c κs. c .if1 .left) returns-2)
+parse-trampoline-spec =
+    tie.close
+    (tie.spec
+    returns
+    (λ c κs. search needs)
+    (λ c κs. search needs)
+    (λ c κs. search needs)
+    (λ c κs. search needs)
+    (λ c κs. search needs)
+    (λ c κs. search needs)
+    (λ c κs. search needs)
+    returns-2)

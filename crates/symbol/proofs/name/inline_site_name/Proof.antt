@@ -1,20 +1,31 @@
 -- `symbol::name::inline_site_name` meets its contract.
 -- Assumes nothing.
 use borrow.Author.Needs.{needs}
-use borrow.Author.Tests.{eq-eqb, ne-eqb}
-use mathlib.Core.Path.{_∙_}
-use Rattle.code.specs.Inline.{inlineSite}
-use Rattle.symbol.proofs.Classes.{plain-site-name, counted-site-name}
+use mathlib.Core.Path.{refl, ap, sym, _∙_}
+use Rattle.common.proofs.Rows.{first-refused, both-value}
+use Rattle.code.specs.Answer.{invocationsOf}
+use Rattle.code.specs.Inline.{invocations, rest}
+use Rattle.code.proofs.Rows.{inline-site-row}
+use Rattle.symbol.specs.Name.{nameIn, answered}
 use Rattle.symbol.proofs.name.inline_site_name.Statement.{statement}
 use Rattle.symbol.proofs.name.inline_site_name.Tie as tie
 
 returns : tie.Need-returns
-unfolding inlineSite
-returns c = rw (eq-eqb _ 0x115d (c .before .if1 .taken)) (c .nothing-behind .ensures ∙ counted-site-name _ (c .before .before .before .pre))
+returns c = ap (answered nameIn) (sym (inline-site-row _ _ .short (c .if1 .taken)))
 
 returns-2 : tie.Need-returns-2
-unfolding inlineSite
-returns-2 c = rw (ne-eqb _ 0x115d (c .before .if1 .left)) (c .nothing-behind2 .ensures ∙ plain-site-name _ (c .before .before .before .pre))
+unfolding inline-site-row rest
+returns-2 c =
+    let p = c .before .before in
+    ap (answered nameIn) (both-value (inline-site-row _ _) (invocations _) rest _ refl (p .before .if1 .left) (sym (ap invocationsOf (c .enum-told .given .1)) ∙ p .parse-invocations .ensures) refl)
+
+returns-3 : tie.Need-returns-3
+unfolding inline-site-row
+returns-3 c =
+    let p = c .before .before .before in
+    ap (answered nameIn) (first-refused (inline-site-row _ _) (invocations _) rest _ refl (p .before .if1 .left) (sym (ap invocationsOf (c .before .e .given .1)) ∙ p .parse-invocations .ensures))
 
 pub inline-site-name-spec : {M : Type 1} → statement M
-inline-site-name-spec = tie.close (tie.spec (λ c κs. search needs) returns (λ c κs. search needs) returns-2)
+inline-site-name-spec =
+    tie.close
+    (tie.spec returns (λ c κs. search needs) (λ c. search needs) (λ c. search needs) returns-2 returns-3)

@@ -1,22 +1,25 @@
 -- `symbol::register_entry::list_entry` meets its contract.
 -- Assumes nothing.
 use borrow.Author.Needs.{needs}
-use Rattle.registers.proofs.Lists.{count-long, count-short}
-use Rattle.symbol.proofs.Lists.{list-there, list-short}
+use mathlib.Core.Path.{ap, sym, _∙_}
+use Rattle.common.specs.Answer.{u16Of}
+use Rattle.symbol.proofs.Lists.{list-entry-row, list-counted, list-uncounted}
 use Rattle.symbol.proofs.register_entry.list_entry.Statement.{statement}
 use Rattle.symbol.proofs.register_entry.list_entry.Tie as tie
 
 returns : tie.Need-returns
-returns c = list-short _ 2 _ (count-long _ (c .before .if1 .taken)) _ (c .if2 .taken)
+returns c = sym (list-entry-row _ _ _ .short (c .if1 .taken))
 
 returns-2 : tie.Need-returns-2
-returns-2 c = list-short _ 1 _ (count-short _ (c .before .if1 .left)) _ (c .if3 .taken)
+returns-2 c =
+    let v = c .before .before in
+    let p = v .before .before in
+    list-counted _ _ _ (p .before .if1 .left) (sym (ap u16Of (v .count .given .1)) ∙ p .parse-register-count .ensures) (c .counted-entry .ensures)
 
 returns-3 : tie.Need-returns-3
-returns-3 c = list-there _ 2 _ (count-long _ (c .before .before .before .if1 .taken)) _ (c .before .before .if2 .left) (c .before .u16-at .ensures) (c .counted-entry .ensures)
-
-returns-4 : tie.Need-returns-4
-returns-4 c = list-there _ 1 _ (count-short _ (c .before .before .before .if1 .left)) _ (c .before .before .if3 .left) (c .before .u8-at .ensures) (c .counted-entry2 .ensures)
+returns-3 c =
+    let p = c .before .before .before in
+    list-uncounted _ _ _ (p .before .if1 .left) (sym (ap u16Of (c .before .e .given .1)) ∙ p .parse-register-count .ensures)
 
 pub list-entry-spec : {M : Type 1} → statement M
 list-entry-spec =
@@ -24,10 +27,8 @@ list-entry-spec =
     (tie.spec
     returns
     (λ c κs. search needs)
-    (λ c κs. search needs)
-    returns-2
-    (λ c κs. search needs)
     (λ c. search needs)
     (λ c κs. search needs)
-    returns-3
-    returns-4)
+    (λ c. search needs)
+    returns-2
+    returns-3)

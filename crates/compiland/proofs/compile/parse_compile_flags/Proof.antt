@@ -1,10 +1,10 @@
--- `symbol::parse_compile_flags` meets its contract.
+-- `compiland::compile::parse_compile_flags` meets its contract.
 -- Assumes nothing.
 use borrow.Author.Needs.{needs}
 use borrow.Author.Tests.{eq-eqb, ne-eqb}
 use Rattle.compiland.specs.Compile.{compile}
-use Rattle.symbol.proofs.parse_compile_flags.Statement.{statement}
-use Rattle.symbol.proofs.parse_compile_flags.Tie as tie
+use Rattle.compiland.proofs.compile.parse_compile_flags.Statement.{statement}
+use Rattle.compiland.proofs.compile.parse_compile_flags.Tie as tie
 
 returns : tie.Need-returns
 unfolding compile
