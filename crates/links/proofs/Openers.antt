@@ -7,7 +7,7 @@ use mathlib.Core.List.{List, [], _∷_, map}
 use native.Mathlib.Omega.{arith}
 use lib.ListN.{length}
 use lib.Dec.{ltb, leb, eqb}
-use borrow.Author.Tests.{leb-true, eqb-true, le-ltb}
+use borrow.Author.Tests.{leb-true, leb-false, eqb-true, le-ltb}
 use Rattle.common.specs.Bytes.{le}
 use Rattle.common.specs.Reader.{Read, value, refused, runsOut, refusal, Reader, next, _>>=_, uint, u32}
 use Rattle.common.specs.declared.Refusal.{Refusal}
@@ -24,10 +24,13 @@ use Rattle.records.specs.declared.OptionU32.the-variants as U32
 use Rattle.records.specs.declared.SymbolData.{SymbolData}
 use Rattle.code.specs.Procedure.{procedure}
 use Rattle.code.specs.Block.{block, separatedCode}
-use Rattle.code.specs.Inline.{plainSite, countedSite, inlineSite}
-use Rattle.code.specs.Thunk.{thunk}
+use Rattle.code.specs.Inline.{invocations, rest, inlineSite}
+use Rattle.code.specs.Thunk.{thunkKind, thunk}
+use Rattle.code.proofs.Rows.{procedure-row, inline-site-row, block-row, thunk-row, separated-code-row}
+use Rattle.names.specs.Name.{symbolName}
+use Rattle.common.proofs.Rows.{Row}
 use Rattle.symbol.specs.Decode.{layout, byKind, decode}
-use Rattle.symbol.specs.Name.{namedBy, nameOf}
+use Rattle.symbol.specs.Name.{nameIn, answered, nameOf}
 use Rattle.symbol.specs.declared.name.Named.the-variants as N
 use Rattle.links.specs.Links.{linksIn, linksBy, linksOf}
 use Rattle.links.specs.declared.Links.the-variants.{Unread, Read as Fields}
@@ -52,25 +55,19 @@ abbrev Linked : List ℕ → Read SymbolData → Type 0
 Linked s (value d to) = (10 ≤ length s) × (linksIn d ≡ Fields (le 4 s 2) (le 4 s 6))
 Linked s (refused e) = Unit
 
--- a layout that starts with a parent and an end
-abbrev two : (ℕ → ℕ → Reader SymbolData) → Reader SymbolData
-two k = u32 >>= λ parent. u32 >>= λ end. k parent end
-
-linked : (k : ℕ → ℕ → Reader SymbolData) → ((p e : ℕ) (s : List ℕ) (at : ℕ) → Has p e (k p e s at)) → (s : List ℕ) → Linked s (two k s 2)
-unfolding _>>=_ uint
-linked k each s = go (leb 6 (length s))
+-- a row whose tail answers records of these links has them itself
+row-linked : {m : Reader SymbolData} {to : ℕ} {s : List ℕ} (row : Row m 2 to s) → leb 10 to ≡ true → Has (le 4 s 2) (le 4 s 6) (row .tail s to) → Linked s (m s 2)
+row-linked {m} {to} {s} row fits has = go (leb to (length s)) refl
   where
     inside : 10 ≤ length s → (r : Read SymbolData) → Has (le 4 s 2) (le 4 s 6) r → Linked s r
-    inside h (value d to) e = (h, e)
+    inside h (value d next) e = (h, e)
     inside h (refused x) e = tt
 
-    second : (b : Bool) → leb 10 (length s) ≡ b → Linked s (next (λ e. k (le 4 s 2) e) s (cond b (value (le 4 s 6) 10) (refused runsOut)))
-    second true h = inside (leb-true _ _ h) (k (le 4 s 2) (le 4 s 6) s 10) (each (le 4 s 2) (le 4 s 6) s 10)
-    second false h = tt
-
-    go : (a : Bool) → Linked s (next (λ p s' at. next (λ e. k p e) s' (cond (leb (at + 4) (length s')) (value (le 4 s' at) (at + 4)) (refused runsOut))) s (cond a (value (le 4 s 2) 6) (refused runsOut)))
-    go true = second (leb 10 (length s)) refl
-    go false = tt
+    go : (b : Bool) → leb to (length s) ≡ b → Linked s (m s 2)
+    go true e =
+        let h = leb-true to (length s) e in
+        rw (row .there h) (inside (omega (arith, leb-true 10 to fits)) (row .tail s to) has)
+    go false e = rw (row .short (leb-false to (length s) e)) tt
 
 -- a parent field of 0 is none, and none is 0
 index-parent : (x : ℕ) → orZero32 (indexOf x) ≡ x
@@ -85,43 +82,28 @@ optional : (p e : ℕ) → Fields (orZero32 (indexOf p)) e ≡ Fields p e
 optional p e = ap (λ (x : ℕ). Fields x e) (index-parent p)
 
 procedure-linked : (kind : ℕ) (s : List ℕ) → Linked s (procedure kind s 2)
-unfolding procedure
-procedure-linked kind =
-    linked _ (λ p e. then-has p e _ (λ a. then-has p e _ (λ b. then-has p e _ (λ c. then-has p e _ (λ d. then-has p e _ (λ f. then-has p e _ (λ g.
-    then-has p e _ (λ h. then-has p e _ (λ i. then-has p e _ (λ n s at. optional p e) _) _) _) _) _) _) _) _) _)
-
-plain-site-linked : (s : List ℕ) → Linked s (plainSite s 2)
-unfolding plainSite
-plain-site-linked = linked _ (λ p e. then-has p e _ (λ a. then-has p e _ (λ b s at. optional p e) _) _)
-
-counted-site-linked : (s : List ℕ) → Linked s (countedSite s 2)
-unfolding countedSite
-counted-site-linked = linked _ (λ p e. then-has p e _ (λ a. then-has p e _ (λ b. then-has p e _ (λ c s at. optional p e) _) _) _)
+unfolding procedure-row
+procedure-linked kind s = row-linked (procedure-row kind s) refl (then-has _ _ _ (λ n s' at. optional _ _) (symbolName kind) s 37)
 
 inline-site-linked : (kind : ℕ) (s : List ℕ) → Linked s (inlineSite kind s 2)
-unfolding inlineSite
-inline-site-linked kind s = go (eqb kind 0x115d)
-  where
-    go : (b : Bool) → Linked s (cond b countedSite plainSite s 2)
-    go true = counted-site-linked s
-    go false = plain-site-linked s
+unfolding inline-site-row
+inline-site-linked kind s =
+    row-linked (inline-site-row kind s) refl
+    (then-has _ _ _ (λ n s' at. then-has _ _ _ (λ a s'' to. optional _ _) rest s' at) (invocations kind) s 14)
 
 block-linked : (kind : ℕ) (s : List ℕ) → Linked s (block kind s 2)
-unfolding block
-block-linked kind =
-    linked _ (λ p e. then-has p e _ (λ a. then-has p e _ (λ b. then-has p e _ (λ c. then-has p e _ (λ n s at. refl) _) _) _) _)
+unfolding block-row
+block-linked kind s = row-linked (block-row kind s) refl (then-has _ _ _ (λ n s' at. refl) (symbolName kind) s 20)
 
 thunk-linked : (kind : ℕ) (s : List ℕ) → Linked s (thunk kind s 2)
-unfolding thunk
-thunk-linked kind =
-    linked _ (λ p e. then-has p e _ (λ a. then-has p e _ (λ b. then-has p e _ (λ c. then-has p e _ (λ d. then-has p e _ (λ f. then-has p e _ (λ n.
-    then-has p e _ (λ v s at. optional p e) _) _) _) _) _) _) _)
+unfolding thunk-row
+thunk-linked kind s =
+    row-linked (thunk-row kind s) refl
+    (then-has _ _ _ (λ n s' at. then-has _ _ _ (λ v s'' to. optional _ _) (thunkKind _) s' at) (symbolName kind) s 23)
 
 separated-code-linked : (s : List ℕ) → Linked s (separatedCode s 2)
-unfolding separatedCode
-separated-code-linked =
-    linked _ (λ p e. then-has p e _ (λ a. then-has p e _ (λ b. then-has p e _ (λ c. then-has p e _ (λ d. then-has p e _ (λ f.
-    then-has p e _ (λ g s at. refl) _) _) _) _) _) _)
+unfolding separated-code-row
+separated-code-linked s = row-linked (separated-code-row s) refl refl
 
 -- the classes of the kinds that open a scope; a class that is not read has no record
 abbrev opening : Class → Bool
@@ -184,7 +166,7 @@ pub links-answered : (s : List ℕ) (o : OptionPart) → nestingRoleOf s ≡ Ope
 unfolding nameOf linksOf
 links-answered s o h e = by (decode s) refl (decode-linked s h) e
   where
-    by : (r : Read SymbolData) → decode s ≡ r → Linked s r → namedBy r ≡ N.Answer o → Found s
+    by : (r : Read SymbolData) → decode s ≡ r → Linked s r → answered nameIn r ≡ N.Answer o → Found s
     by (value d to) q l n = record { room = l .0; links = sym (l .1) ∙ ap linksBy (sym q) }
     by (refused x) q l n = absurd (let z : _≡_ {A = ℕ} 0 1 = cc in omega arith)
 
@@ -192,6 +174,6 @@ pub links-refused : (s : List ℕ) (x : Refusal) → nameOf s ≡ N.Refused x �
 unfolding nameOf linksOf
 links-refused s x e = by (decode s) e
   where
-    by : (r : Read SymbolData) → namedBy r ≡ N.Refused x → Unread ≡ linksBy r
+    by : (r : Read SymbolData) → answered nameIn r ≡ N.Refused x → Unread ≡ linksBy r
     by (value d to) n = absurd (let z : _≡_ {A = ℕ} 0 1 = cc in omega arith)
     by (refused y) n = refl
