@@ -1,23 +1,22 @@
 -- The kinds' table and arms against the list of kinds: tests that antt computes over the whole list, and the laws that carry them to a kind.
 -- Assumes nothing.
-use Prim.Native.Nat.{ℕ, zero, suc, _+_, _-_, _*_, _/_, _%_, _^_, _<_, _≤_}
+use Prim.Native.Nat.{ℕ, _+_, _-_, _*_, _/_, _%_, _^_, _<_, _≤_}
 use mathlib.Core.Path.{_≡_, refl, ap, _∙_, sym}
 use mathlib.Core.Bool.{Bool, true, false, cond, _||_}
 use mathlib.Core.List.{List, [], _∷_, map}
 use native.Mathlib.Omega.{arith}
-use native.Mathlib.Nat.{add-zero, zero-add, le-of-suc-le-suc, not-suc-le-zero, pow-succ', mod-lt, mod-eq-of-lt, div-one, div-add-mod, div-eq-of-lt, div-div-eq-div-mul, add-mul-div-left, add-mul-mod-self-left}
-use native.Mathlib.Decide.{decLt}
+use native.Mathlib.Nat.{zero-add, zero-div, zero-mod}
 use borrow.Author.Tests.{ltb-true, ltb-false, leb-false}
-use lib.Dec.{ltb, leb, eqb, lit<}
+use lib.Dec.{ltb, leb, eqb}
 use lib.ListN.{getD, replicate, List·getD-map}
 use Rattle.constants.specs.Kind.{Entry, kind, kinds, number, class, role, find, classOf, classNumber, roleOf}
-use Rattle.constants.specs.Table.{code, codeOf, packed, rowOf}
+use Rattle.constants.specs.Table.{code, codeOf, Row}
 use Rattle.constants.specs.Listed.{among}
 use Rattle.constants.specs.declared.Class.{Class}
 use Rattle.constants.specs.declared.Class.the-variants.{Unknown, ScopeEnd, ObjName, RegisterVariable, Constant, UserDefinedType, MultiRegisterVariable, Data, Public, Procedure, ThreadStorage, CompileFlags, UsingNamespace, ProcedureReference, DataReference, AnnotationReference, Trampoline, Export, Local, BuildInfo, InlineSite, InlineSiteEnd, ProcedureEnd, Label, Block, RegisterRelative, Thunk, SeparatedCode}
 use Rattle.constants.specs.declared.Role.{Role}
 use Rattle.constants.specs.declared.Role.the-variants.{Neither, Opens, Closes}
-use Rattle.constants.proofs.Rules.{tabulate, zero-below, Told, absent}
+use Rattle.constants.proofs.Rules.{tabulate, from, zero-below, Told, absent, untold}
 
 abbrev pub classes : List Class
 classes =
@@ -76,102 +75,78 @@ unfolding find
 agree f g k [] h n = n
 agree f g k (e ∷ es) h n = either f g (eqb k (number e)) e (find k es) (cc) (agree f g k es (cc) n)
 
-small : (k : ℕ) → codeOf k < 256
-unfolding codeOf kinds
-small k = ltb-true (codeOf k) 256 (agree (λ e. ltb (code e) 256) (λ e. true) k kinds refl refl)
-
--- a code among those that are packed
-digit : (m k j : ℕ) → j < m → packed m k / 2 ^ (j * 8) % 256 ≡ codeOf (k + j)
-unfolding packed
-digit zero k j h = absurd (not-suc-le-zero h)
-digit (suc m) k zero h =
-    ap (λ (x : ℕ). x % 256) (div-one (codeOf k + 256 * packed m (suc k)))
-    ∙ add-mul-mod-self-left (codeOf k) 256 (packed m (suc k))
-    ∙ mod-eq-of-lt (small k)
-    ∙ ap codeOf (sym (add-zero k))
-digit (suc m) k (suc j) h =
-    ap (λ (x : ℕ). (codeOf k + 256 * packed m (suc k)) / x % 256) (eight j)
-    ∙ ap (λ (x : ℕ). x % 256) (sym (div-div-eq-div-mul (codeOf k + 256 * packed m (suc k)) 256 (2 ^ (j * 8))))
-    ∙ ap (λ (x : ℕ). x / 2 ^ (j * 8) % 256) (add-mul-div-left (codeOf k) (packed m (suc k)) (lit< tt) ∙ ap (λ (x : ℕ). x + packed m (suc k)) (div-eq-of-lt (small k)) ∙ zero-add (packed m (suc k)))
-    ∙ digit m (suc k) j (le-of-suc-le-suc h)
-    ∙ ap codeOf (let e : suc k + j ≡ k + suc j = omega arith in e)
-  where
-    eight : (j : ℕ) → 2 ^ (suc j * 8) ≡ 256 * 2 ^ (j * 8)
-    eight j =
-        let p : (n : ℕ) → 2 ^ suc n ≡ 2 * 2 ^ n = pow-succ' 2 in
-        let x = j * 8 in
-        ap (λ (y : ℕ). 2 ^ y) (let e : suc j * 8 ≡ suc (suc (suc (suc (suc (suc (suc (suc x))))))) = omega arith in e)
-        ∙ omega (arith, p x, p (suc x), p (suc (suc x)), p (suc (suc (suc x))), p (suc (suc (suc (suc x)))), p (suc (suc (suc (suc (suc x))))), p (suc (suc (suc (suc (suc (suc x)))))), p (suc (suc (suc (suc (suc (suc (suc x))))))))
-
-pub in-table : (k : ℕ) → 0x1000 ≤ k → k < 0x1160 → rowOf ((k - 0x1000) / 8) / 2 ^ ((k - 0x1000) % 8 * 8) % 256 ≡ codeOf k
-unfolding rowOf
-in-table k l h =
-    digit 8 (0x1000 + 8 * ((k - 0x1000) / 8)) ((k - 0x1000) % 8) (mod-lt (k - 0x1000) (lit< tt))
-    ∙ ap codeOf (let e = div-add-mod (k - 0x1000) 8 in let f : 0x1000 + 8 * ((k - 0x1000) / 8) + (k - 0x1000) % 8 ≡ k = omega arith in f)
-
--- the arm for a row, and the last arm
-pub row-at : (i : ℕ) {n : ℕ} → n ≡ i → rowOf i ≡ rowOf n
-row-at i h = ap rowOf (sym h)
+-- the arm for a row: antt computes the eight entries from the list of kinds, and compares them with the bytes of the word
+pub row-in-arm : {i n : ℕ} (word : ℕ) → n ≡ i → tabulate (λ j. word / 2 ^ (j * 8) % 0x100) 0 8 ≡ tabulate codeOf (0x1000 + i * 8) 8 → Row n word
+row-in-arm {i} {n} word h t =
+    record {
+      entry = λ j l.
+          sym (rw zero-add at (from (λ j. word / 2 ^ (j * 8) % 0x100) 8 0 j l))
+          ∙ ap (λ (bytes : List ℕ). getD bytes j 0) t
+          ∙ from codeOf 8 (0x1000 + i * 8) j l
+          ∙ ap (λ (m : ℕ). codeOf (0x1000 + m * 8 + j)) (sym h);
+    }
 
 abbrev rows : List ℕ
 rows = 0 ∷ 1 ∷ 2 ∷ 3 ∷ 4 ∷ 5 ∷ 32 ∷ 33 ∷ 34 ∷ 35 ∷ 36 ∷ 37 ∷ 38 ∷ 39 ∷ 40 ∷ 41 ∷ 42 ∷ 43 ∷ []
 
-packed-above : (m k : ℕ) → 0x1160 ≤ k → packed m k ≡ 0
-unfolding packed
-packed-above zero k h = refl
-packed-above (suc m) k h = rw (sym (above k h), packed-above m (suc k) (omega arith))
+-- the entry at i, if no arm gives its row
+left-out : ℕ → ℕ
+left-out i = cond (among (i / 8) rows) 0 (codeOf (0x1000 + i))
 
-untabled : ℕ → ℕ
-untabled n = cond (among n rows) 0 (rowOf n)
+none-left-out : tabulate left-out 0 352 ≡ replicate 352 0
+unfolding left-out among codeOf find kinds
+none-left-out = refl
 
-untabled-none : tabulate untabled 0 44 ≡ replicate 44 0
-unfolding untabled among rowOf packed codeOf find kinds
-untabled-none = refl
+-- the last arm: a row that no arm gives holds no known kind
+pub row-of-none : {n : ℕ} → n < 44 → Told (λ m. true) rows n Unit → Row n 0
+unfolding left-out
+row-of-none {n} h t =
+    record {
+      entry = λ j l.
+          let row : (n * 8 + j) / 8 ≡ n = omega arith in
+          let there : 0x1000 + (n * 8 + j) ≡ 0x1000 + n * 8 + j = omega arith in
+          let nothing : left-out (n * 8 + j) ≡ 0 = zero-below left-out 352 (n * 8 + j) none-left-out (omega arith) in
+          rw (zero-div, zero-mod) (sym (rw (row, untold rows n t, there) at nothing));
+    }
 
-pub row-rest : (n : ℕ) → Told (λ m. true) rows n Unit → 0 ≡ rowOf n
-unfolding untabled rowOf
-row-rest n t = by (decLt n 44)
-  where
-    by : Dec (n < 44) → 0 ≡ rowOf n
-    by (yes l) = sym (rw (absent (λ m. true) rows n (λ m e. absurd (let z : _≡_ {A = ℕ} 0 1 = cc in omega arith)) t) at (zero-below untabled 44 n untabled-none l))
-    by (no g) = sym (packed-above 8 (0x1000 + 8 * n) (omega arith))
+-- and so each kind of the table has its entry in its row
+pub in-table : (k word : ℕ) → 0x1000 ≤ k → Row ((k - 0x1000) / 8) word → word / 2 ^ ((k - 0x1000) % 8 * 8) % 0x100 ≡ codeOf k
+in-table k word l row =
+    let there : 0x1000 + (k - 0x1000) / 8 * 8 + (k - 0x1000) % 8 ≡ k = omega arith in
+    row .entry ((k - 0x1000) % 8) (omega arith) ∙ ap codeOf there
 
-pub class-place : (k : ℕ) → codeOf k / 4 < 28
-unfolding codeOf kinds
-class-place k = ltb-true (codeOf k / 4) 28 (agree (λ e. ltb (code e / 4) 28) (λ e. true) k kinds refl refl)
-
-pub class-there : (k : ℕ) → getD classes (codeOf k / 4) Unknown ≡ classOf k
+-- the class and the role that an entry holds
+pub number-of-code : (k : ℕ) → codeOf k / 4 ≡ classNumber (classOf k)
 unfolding codeOf classOf kinds
-class-there k = agree (λ e. getD classes (code e / 4) Unknown) class k kinds refl refl
+number-of-code k = agree (λ e. code e / 4) (λ e. classNumber (class e)) k kinds refl refl
 
--- the arm for a class, and the last arm, which no kind comes to
-pub class-at : (i k : ℕ) → codeOf k / 4 ≡ i → getD classes i Unknown ≡ classOf k
-class-at i k h = ap (λ (x : ℕ). getD classes x Unknown) (sym h) ∙ class-there k
-
-pub number-there : (k : ℕ) → codeOf k / 4 ≡ classNumber (classOf k)
-unfolding codeOf classOf kinds
-number-there k = agree (λ e. code e / 4) (λ e. classNumber (class e)) k kinds refl refl
-
-unnumbered : ℕ → ℕ
-unnumbered n = cond (among n (tabulate (λ x. x) 0 28)) 0 1
-
-pub class-rest : (k : ℕ) → Told (λ m. true) (tabulate (λ x. x) 0 28) (codeOf k / 4) Unit → Unknown ≡ classOf k
-unfolding unnumbered among
-class-rest k t =
-    let z : _≡_ {A = ℕ} 1 0 = rw (absent (λ m. true) (tabulate (λ x. x) 0 28) (codeOf k / 4) (λ m e. absurd (let w : _≡_ {A = ℕ} 0 1 = cc in omega arith)) t) at (zero-below unnumbered 28 (codeOf k / 4) numbered (class-place k)) in
-    absurd (omega arith)
-  where
-    numbered : tabulate unnumbered 0 28 ≡ replicate 28 0
-    numbered = refl
-
-pub role-place : (k : ℕ) → codeOf k % 4 < 3
+pub class-number-small : (k : ℕ) → codeOf k / 4 < 28
 unfolding codeOf kinds
-role-place k = ltb-true (codeOf k % 4) 3 (agree (λ e. ltb (code e % 4) 3) (λ e. true) k kinds refl refl)
+class-number-small k = ltb-true (codeOf k / 4) 28 (agree (λ e. ltb (code e / 4) 28) (λ e. true) k kinds refl refl)
 
-pub role-there : (k : ℕ) → getD roles (codeOf k % 4) Neither ≡ roleOf k
+class-of-code : (k : ℕ) → getD classes (codeOf k / 4) Unknown ≡ classOf k
+unfolding codeOf classOf kinds
+class-of-code k = agree (λ e. getD classes (code e / 4) Unknown) class k kinds refl refl
+
+pub class-in-arm : {i : ℕ} (k : ℕ) → codeOf k / 4 ≡ i → getD classes i Unknown ≡ classOf k
+class-in-arm k h = ap (λ (x : ℕ). getD classes x Unknown) (sym h) ∙ class-of-code k
+
+-- no kind comes to the last arm
+pub class-has-arm : (k : ℕ) → Told (λ m. true) (tabulate (λ m. m) 0 28) (codeOf k / 4) Unit → ⊥
+unfolding among codeOf kinds
+class-has-arm k t =
+    let numbers : List ℕ = tabulate (λ m. m) 0 28 in
+    let has : among (codeOf k / 4) numbers ≡ true = agree (λ e. among (code e / 4) numbers) (λ e. true) k kinds refl refl in
+    let not : among (codeOf k / 4) numbers ≡ false = untold numbers (codeOf k / 4) t in
+    let z : _≡_ {A = ℕ} 0 1 = cc in omega arith
+
+pub role-number-small : (k : ℕ) → codeOf k % 4 < 3
+unfolding codeOf kinds
+role-number-small k = ltb-true (codeOf k % 4) 3 (agree (λ e. ltb (code e % 4) 3) (λ e. true) k kinds refl refl)
+
+role-of-code : (k : ℕ) → getD roles (codeOf k % 4) Neither ≡ roleOf k
 unfolding codeOf roleOf kinds
-role-there k = agree (λ e. getD roles (code e % 4) Neither) role k kinds refl refl
+role-of-code k = agree (λ e. getD roles (code e % 4) Neither) role k kinds refl refl
 
--- the arm for a role
-pub role-at : (i k : ℕ) → codeOf k % 4 ≡ i → getD roles i Neither ≡ roleOf k
-role-at i k h = ap (λ (x : ℕ). getD roles x Neither) (sym h) ∙ role-there k
+pub role-in-arm : {i : ℕ} (k : ℕ) → codeOf k % 4 ≡ i → getD roles i Neither ≡ roleOf k
+role-in-arm k h = ap (λ (x : ℕ). getD roles x Neither) (sym h) ∙ role-of-code k

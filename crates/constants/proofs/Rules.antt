@@ -15,7 +15,7 @@ abbrev pub tabulate : (ℕ → ℕ) → ℕ → ℕ → List ℕ
 tabulate f i zero = []
 tabulate f i (suc n) = f i ∷ tabulate f (suc i) n
 
-from : (f : ℕ → ℕ) (n i k : ℕ) → k < n → getD (tabulate f i n) k 0 ≡ f (i + k)
+pub from : (f : ℕ → ℕ) (n i k : ℕ) → k < n → getD (tabulate f i n) k 0 ≡ f (i + k)
 from f zero i k h = absurd (not-suc-le-zero h)
 from f (suc n) i zero h = ap f (sym (add-zero i))
 from f (suc n) i (suc k) h = from f n (suc i) k (le-of-suc-le-suc h) ∙ ap f (suc-add i k ∙ sym (add-suc i k))
@@ -62,3 +62,6 @@ differs p (m ∷ ms) k P d t =
 -- a number is in no list if it differs from those that pass the test, as it is told, and from those that do not
 pub absent : (p : ℕ → Bool) (ms : List ℕ) (k : ℕ) → ((m : ℕ) → p m ≡ false → k ≡ m → ⊥) → Told p ms k Unit → among k ms ≡ false
 absent p ms k d t = differs p ms k Unit d t .1
+
+pub untold : (ms : List ℕ) (k : ℕ) → Told (λ m. true) ms k Unit → among k ms ≡ false
+untold ms k = absent (λ m. true) ms k (λ m e. absurd (let z : _≡_ {A = ℕ} 0 1 = cc in omega arith))

@@ -1,5 +1,6 @@
--- How the code packs the class and the role of a kind into one byte. No public contract cites it: nothing that a reader must believe.
-use Prim.Native.Nat.{ℕ, zero, suc, _+_, _*_}
+-- How the table of kinds holds the class and the role of a kind.
+use Prim.Native.Nat.{ℕ, _+_, _*_, _/_, _%_, _^_, _<_}
+use mathlib.Core.Path.{_≡_}
 use Rattle.constants.specs.Kind.{Entry, kinds, find, class, role, classNumber}
 use Rattle.constants.specs.declared.Role.{Role}
 use Rattle.constants.specs.declared.Role.the-variants.{Neither, Opens, Closes}
@@ -9,17 +10,13 @@ roleNumber Neither = 0
 roleNumber Opens = 1
 roleNumber Closes = 2
 
+-- an entry is four times the number of the class, and that of the role
 abbrev pub code : Entry → ℕ
 code e = classNumber (class e) * 4 + roleNumber (role e)
 
 unfoldable pub codeOf : ℕ → ℕ
 codeOf k = code (find k kinds)
 
--- so many codes from that of k on, the first in the lowest byte
-unfoldable pub packed : ℕ → ℕ → ℕ
-packed zero k = 0
-packed (suc m) k = codeOf k + 256 * packed m (suc k)
-
--- a row of the table of the kinds from 0x1000 on: the codes of eight kinds
-unfoldable pub rowOf : ℕ → ℕ
-rowOf n = packed 8 (0x1000 + 8 * n)
+-- row n is a word of eight entries, from that of the kind 0x1000 + 8 * n in its lowest byte on
+pub record Row (n word : ℕ) : Type 0 where
+  pub entry : (j : ℕ) → j < 8 → word / 2 ^ (j * 8) % 0x100 ≡ codeOf (0x1000 + n * 8 + j)

@@ -35,12 +35,14 @@ fn closes(role: Role) -> bool
     }
 }
 
+// Whether the record opens a scope.
 pub fn starts_scope(s: &[u8]) -> bool
     ensures { λ r. ⌜ r ≡ startsScope (rawKind (now (s .entry))) ⌝ }
 {
     opens(super::role_of(raw_kind(s)))
 }
 
+// Whether the record closes a scope.
 pub fn ends_scope(s: &[u8]) -> bool
     ensures { λ r. ⌜ r ≡ endsScope (rawKind (now (s .entry))) ⌝ }
 {

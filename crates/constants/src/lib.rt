@@ -5,6 +5,7 @@ pub mod classes;
 pub mod compiler;
 mod cpu_types;
 pub mod kind;
+mod rows;
 mod table;
 
 use table::CLOSES;
@@ -58,35 +59,63 @@ pub const S_MANCONSTANT: u16 = 0x112d;
 
 pub const S_INLINESITE2: u16 = 0x115d;
 
-// What a record is decoded as, in the order of pdb's `SymbolData`. `Unknown` is a kind that is not read.
+// What a record is decoded as, in the order of pdb's `SymbolData`.
 pub enum Class {
+    // A kind that is not read.
     Unknown,
+    // The end of a scope, such as a block or a procedure.
     ScopeEnd,
+    // The name of the module's object file.
     ObjName,
+    // A variable in a register.
     RegisterVariable,
+    // A constant and its value.
     Constant,
+    // A name for a user-defined type.
     UserDefinedType,
+    // A variable that spans registers.
     MultiRegisterVariable,
+    // Static data, as a global variable.
     Data,
+    // A public symbol with a mangled name.
     Public,
+    // A procedure, as a function or a method.
     Procedure,
+    // A thread-local variable.
     ThreadStorage,
+    // How a module was compiled.
     CompileFlags,
+    // A using-namespace directive.
     UsingNamespace,
+    // A reference to a procedure in a module.
     ProcedureReference,
+    // A reference to data in a module.
     DataReference,
+    // A reference to an annotation.
     AnnotationReference,
+    // A trampoline: a jump that the linker made.
     Trampoline,
+    // An exported symbol.
     Export,
+    // A local variable in optimized code.
     Local,
+    // A reference to build information.
     BuildInfo,
+    // The call site of an inlined function.
     InlineSite,
+    // The end of an inline site.
     InlineSiteEnd,
+    // The end of a procedure.
     ProcedureEnd,
+    // A label in code.
     Label,
+    // A block of a procedure.
     Block,
+    // A variable at an offset from a register.
     RegisterRelative,
+    // A thunk: code that adjusts a call and hands it on.
     Thunk,
+    // Code of a procedure that lies apart from it.
     SeparatedCode,
 }
 
@@ -102,39 +131,39 @@ pub fn class_of(kind: u16) -> Class
     ensures { λ r. ⌜ r ≡ classOf kind ⌝ }
 {
     match code_of(kind) / 4 {
-        0 => Class::Unknown,
-        1 => Class::ScopeEnd,
-        2 => Class::ObjName,
-        3 => Class::RegisterVariable,
-        4 => Class::Constant,
-        5 => Class::UserDefinedType,
-        6 => Class::MultiRegisterVariable,
-        7 => Class::Data,
-        8 => Class::Public,
-        9 => Class::Procedure,
-        10 => Class::ThreadStorage,
-        11 => Class::CompileFlags,
-        12 => Class::UsingNamespace,
-        13 => Class::ProcedureReference,
-        14 => Class::DataReference,
-        15 => Class::AnnotationReference,
-        16 => Class::Trampoline,
-        17 => Class::Export,
-        18 => Class::Local,
-        19 => Class::BuildInfo,
-        20 => Class::InlineSite,
-        21 => Class::InlineSiteEnd,
-        22 => Class::ProcedureEnd,
-        23 => Class::Label,
-        24 => Class::Block,
-        25 => Class::RegisterRelative,
-        26 => Class::Thunk,
-        27 => Class::SeparatedCode,
-        _ => Class::Unknown,
+        classes::UNKNOWN => Class::Unknown,
+        classes::SCOPE_END => Class::ScopeEnd,
+        classes::OBJ_NAME => Class::ObjName,
+        classes::REGISTER_VARIABLE => Class::RegisterVariable,
+        classes::CONSTANT => Class::Constant,
+        classes::USER_DEFINED_TYPE => Class::UserDefinedType,
+        classes::MULTI_REGISTER_VARIABLE => Class::MultiRegisterVariable,
+        classes::DATA => Class::Data,
+        classes::PUBLIC => Class::Public,
+        classes::PROCEDURE => Class::Procedure,
+        classes::THREAD_STORAGE => Class::ThreadStorage,
+        classes::COMPILE_FLAGS => Class::CompileFlags,
+        classes::USING_NAMESPACE => Class::UsingNamespace,
+        classes::PROCEDURE_REFERENCE => Class::ProcedureReference,
+        classes::DATA_REFERENCE => Class::DataReference,
+        classes::ANNOTATION_REFERENCE => Class::AnnotationReference,
+        classes::TRAMPOLINE => Class::Trampoline,
+        classes::EXPORT => Class::Export,
+        classes::LOCAL => Class::Local,
+        classes::BUILD_INFO => Class::BuildInfo,
+        classes::INLINE_SITE => Class::InlineSite,
+        classes::INLINE_SITE_END => Class::InlineSiteEnd,
+        classes::PROCEDURE_END => Class::ProcedureEnd,
+        classes::LABEL => Class::Label,
+        classes::BLOCK => Class::Block,
+        classes::REGISTER_RELATIVE => Class::RegisterRelative,
+        classes::THUNK => Class::Thunk,
+        classes::SEPARATED_CODE => Class::SeparatedCode,
+        _ => Class::Unknown, // no entry has another number
     }
 }
 
-// The number of the class of a kind.
+// The number of the class of this kind, as the module classes names it.
 pub fn class_number(kind: u16) -> u8
     ensures { λ r. ⌜ r ≡ classNumber (classOf kind) ⌝ }
 {

@@ -5,7 +5,7 @@ use native.Mathlib.Omega.{arith}
 use mathlib.Core.Path.{_≡_, _∙_, ap}
 use Prim.Native.Nat.{ℕ, _/_}
 use Rattle.constants.specs.Table.{codeOf}
-use Rattle.constants.proofs.Codes.{number-there, class-place}
+use Rattle.constants.proofs.Codes.{number-of-code, class-number-small}
 use Rattle.constants.proofs.class_number.Statement.{statement}
 use Rattle.constants.proofs.class_number.Tie as tie
 
@@ -13,10 +13,10 @@ place : (c : tie.After-code-of) → c .code-of .result / 4 ≡ codeOf (c .before
 place c = ap (λ (n : ℕ). n / 4) (c .code-of .ensures)
 
 cast-result : tie.Need-cast-result
-cast-result c = omega (arith, place c, class-place (c .before .args .kind))
+cast-result c = omega (arith, place c, class-number-small (c .before .args .kind))
 
 returns : tie.Need-returns
-returns c = place c ∙ number-there (c .before .args .kind)
+returns c = place c ∙ number-of-code (c .before .args .kind)
 
 pub class-number-spec : {M : Type 1} → statement M
 class-number-spec = tie.close (tie.spec (λ c κs. search needs) cast-result returns)
