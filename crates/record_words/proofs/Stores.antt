@@ -7,10 +7,11 @@ use native.Mathlib.Omega.{arith}
 use lib.Dec.{lit≤}
 use lib.ListN.{length, take, drop}
 use lib.Seq.{sets, sets-eq, length-sets, length-take-le, drop-at}
+use Rattle.constants.specs.Kind.{classNumber}
 use Rattle.records.specs.declared.SymbolData.{SymbolData}
 use Rattle.records.specs.declared.SymbolData.the-variants as D
 use Rattle.words.specs.Written.{written}
-use Rattle.record_words.specs.Record.{classNumber, fields, recordWords}
+use Rattle.record_words.specs.Record.{classIn, fields, recordWords}
 use Rattle.record_words.specs.Stored.{Stored}
 
 -- stores from place 2 on, and then two words before them
@@ -60,4 +61,4 @@ pub record-written : (d : SymbolData) (class consumed : ℕ) (before between : L
 unfolding recordWords
 record-written d class consumed before between e g =
     let long : length before ≡ 24 = sym (length-sets before 2 (fields d)) ∙ sym (ap length (g .stores)) ∙ e in
-    rw (g .class, g .stores) (two-before (classNumber d) consumed (fields d) before (let f = fields-fit d in omega arith))
+    rw (g .class, g .stores) (two-before (classNumber (classIn d)) consumed (fields d) before (let f = fields-fit d in omega arith))

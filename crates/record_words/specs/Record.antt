@@ -2,6 +2,9 @@
 -- where it starts and its length; a place is its offset and its section.
 use Prim.Native.Nat.{ℕ}
 use mathlib.Core.List.{List, [], _∷_}
+use Rattle.constants.specs.Kind.{classNumber}
+use Rattle.constants.specs.declared.Class.{Class}
+use Rattle.constants.specs.declared.Class.the-variants as C
 use Rattle.records.specs.Field.{orZero32}
 use Rattle.records.specs.declared.ObjNameSymbol.{ObjNameSymbol}
 use Rattle.records.specs.declared.RegisterVariableSymbol.{RegisterVariableSymbol}
@@ -152,35 +155,35 @@ separatedCode x =
     ∷ x .offset .offset ∷ x .offset .section
     ∷ x .«parent_offset» .offset ∷ x .«parent_offset» .section ∷ []
 
--- the place of the class among pdb's, from 1 on
-abbrev pub classNumber : SymbolData → ℕ
-classNumber D.ScopeEnd = 1
-classNumber (D.ObjName x) = 2
-classNumber (D.RegisterVariable x) = 3
-classNumber (D.Constant x) = 4
-classNumber (D.UserDefinedType x) = 5
-classNumber (D.MultiRegisterVariable x) = 6
-classNumber (D.Data x) = 7
-classNumber (D.Public x) = 8
-classNumber (D.Procedure x) = 9
-classNumber (D.ThreadStorage x) = 10
-classNumber (D.CompileFlags x) = 11
-classNumber (D.UsingNamespace x) = 12
-classNumber (D.ProcedureReference x) = 13
-classNumber (D.DataReference x) = 14
-classNumber (D.AnnotationReference x) = 15
-classNumber (D.Trampoline x) = 16
-classNumber (D.Export x) = 17
-classNumber (D.Local x) = 18
-classNumber (D.BuildInfo x) = 19
-classNumber (D.InlineSite x) = 20
-classNumber D.InlineSiteEnd = 21
-classNumber D.ProcedureEnd = 22
-classNumber (D.Label x) = 23
-classNumber (D.Block x) = 24
-classNumber (D.RegisterRelative x) = 25
-classNumber (D.Thunk x) = 26
-classNumber (D.SeparatedCode x) = 27
+-- the class of a typed record
+abbrev pub classIn : SymbolData → Class
+classIn D.ScopeEnd = C.ScopeEnd
+classIn (D.ObjName x) = C.ObjName
+classIn (D.RegisterVariable x) = C.RegisterVariable
+classIn (D.Constant x) = C.Constant
+classIn (D.UserDefinedType x) = C.UserDefinedType
+classIn (D.MultiRegisterVariable x) = C.MultiRegisterVariable
+classIn (D.Data x) = C.Data
+classIn (D.Public x) = C.Public
+classIn (D.Procedure x) = C.Procedure
+classIn (D.ThreadStorage x) = C.ThreadStorage
+classIn (D.CompileFlags x) = C.CompileFlags
+classIn (D.UsingNamespace x) = C.UsingNamespace
+classIn (D.ProcedureReference x) = C.ProcedureReference
+classIn (D.DataReference x) = C.DataReference
+classIn (D.AnnotationReference x) = C.AnnotationReference
+classIn (D.Trampoline x) = C.Trampoline
+classIn (D.Export x) = C.Export
+classIn (D.Local x) = C.Local
+classIn (D.BuildInfo x) = C.BuildInfo
+classIn (D.InlineSite x) = C.InlineSite
+classIn D.InlineSiteEnd = C.InlineSiteEnd
+classIn D.ProcedureEnd = C.ProcedureEnd
+classIn (D.Label x) = C.Label
+classIn (D.Block x) = C.Block
+classIn (D.RegisterRelative x) = C.RegisterRelative
+classIn (D.Thunk x) = C.Thunk
+classIn (D.SeparatedCode x) = C.SeparatedCode
 
 abbrev pub fields : SymbolData → List ℕ
 fields D.ScopeEnd = []
@@ -212,4 +215,4 @@ fields (D.Thunk x) = thunk x
 fields (D.SeparatedCode x) = separatedCode x
 
 unfoldable pub recordWords : SymbolData → ℕ → List ℕ
-recordWords d consumed = classNumber d ∷ consumed ∷ fields d
+recordWords d consumed = classNumber (classIn d) ∷ consumed ∷ fields d

@@ -3,6 +3,7 @@
 // Each function stores the fields of its record from place 2 on, straight into the lent words, and answers the number of the class.
 ghost use Rattle.records.specs.declared.SymbolData.the-variants as D;
 ghost use Rattle.record_words.specs.Stored.{Stored};
+use constants::classes;
 use records::BlockSymbol;
 use records::InlineSiteSymbol;
 use records::LabelSymbol;
@@ -33,7 +34,7 @@ pub fn procedure(x: ProcedureSymbol, out: &mut [u64; 24]) -> u64
     out[13] = super::field::procedure_bits(flags);
     out[14] = name.start as u64;
     out[15] = name.len as u64;
-    9
+    classes::PROCEDURE
 }
 
 pub fn inline_site(x: InlineSiteSymbol, out: &mut [u64; 24]) -> u64
@@ -49,7 +50,7 @@ pub fn inline_site(x: InlineSiteSymbol, out: &mut [u64; 24]) -> u64
     out[6] = super::field::or_zero32(invocations);
     out[7] = annotations.start as u64;
     out[8] = annotations.len as u64;
-    20
+    classes::INLINE_SITE
 }
 
 pub fn label(x: LabelSymbol, out: &mut [u64; 24]) -> u64
@@ -63,7 +64,7 @@ pub fn label(x: LabelSymbol, out: &mut [u64; 24]) -> u64
     out[4] = super::field::procedure_bits(flags);
     out[5] = name.start as u64;
     out[6] = name.len as u64;
-    23
+    classes::LABEL
 }
 
 pub fn block(x: BlockSymbol, out: &mut [u64; 24]) -> u64
@@ -78,7 +79,7 @@ pub fn block(x: BlockSymbol, out: &mut [u64; 24]) -> u64
     out[6] = place.section as u64;
     out[7] = name.start as u64;
     out[8] = name.len as u64;
-    24
+    classes::BLOCK
 }
 
 pub fn separated_code(x: SeparatedCodeSymbol, out: &mut [u64; 24]) -> u64
@@ -95,7 +96,7 @@ pub fn separated_code(x: SeparatedCodeSymbol, out: &mut [u64; 24]) -> u64
     out[7] = place.section as u64;
     out[8] = parent_place.offset as u64;
     out[9] = parent_place.section as u64;
-    27
+    classes::SEPARATED_CODE
 }
 
 pub fn thunk(x: ThunkSymbol, out: &mut [u64; 24]) -> u64
@@ -118,7 +119,7 @@ pub fn thunk(x: ThunkSymbol, out: &mut [u64; 24]) -> u64
     out[11] = super::field::target_len(kind);
     out[12] = name.start as u64;
     out[13] = name.len as u64;
-    26
+    classes::THUNK
 }
 
 pub fn trampoline(x: TrampolineSymbol, out: &mut [u64; 24]) -> u64
@@ -133,5 +134,5 @@ pub fn trampoline(x: TrampolineSymbol, out: &mut [u64; 24]) -> u64
     out[5] = thunk.section as u64;
     out[6] = target.offset as u64;
     out[7] = target.section as u64;
-    16
+    classes::TRAMPOLINE
 }

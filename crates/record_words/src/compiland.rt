@@ -3,6 +3,7 @@
 // Each function stores the fields of its record from place 2 on, straight into the lent words, and answers the number of the class.
 ghost use Rattle.records.specs.declared.SymbolData.the-variants as D;
 ghost use Rattle.record_words.specs.Stored.{Stored};
+use constants::classes;
 use records::AnnotationReferenceSymbol;
 use records::BuildInfoSymbol;
 use records::CompileFlagsSymbol;
@@ -20,7 +21,7 @@ pub fn obj_name(x: ObjNameSymbol, out: &mut [u64; 24]) -> u64
     out[2] = x.signature as u64;
     out[3] = name.start as u64;
     out[4] = name.len as u64;
-    2
+    classes::OBJ_NAME
 }
 
 pub fn public_symbol(x: PublicSymbol, out: &mut [u64; 24]) -> u64
@@ -34,7 +35,7 @@ pub fn public_symbol(x: PublicSymbol, out: &mut [u64; 24]) -> u64
     out[4] = place.section as u64;
     out[5] = name.start as u64;
     out[6] = name.len as u64;
-    8
+    classes::PUBLIC
 }
 
 pub fn compile_flags(x: CompileFlagsSymbol, out: &mut [u64; 24]) -> u64
@@ -61,7 +62,7 @@ pub fn compile_flags(x: CompileFlagsSymbol, out: &mut [u64; 24]) -> u64
     out[14] = super::field::or_zero16(back_qfe);
     out[15] = name.start as u64;
     out[16] = name.len as u64;
-    11
+    classes::COMPILE_FLAGS
 }
 
 pub fn using_namespace(x: UsingNamespaceSymbol, out: &mut [u64; 24]) -> u64
@@ -70,7 +71,7 @@ pub fn using_namespace(x: UsingNamespaceSymbol, out: &mut [u64; 24]) -> u64
     let name = x.name;
     out[2] = name.start as u64;
     out[3] = name.len as u64;
-    12
+    classes::USING_NAMESPACE
 }
 
 pub fn procedure_reference(x: ProcedureReferenceSymbol, out: &mut [u64; 24]) -> u64
@@ -86,7 +87,7 @@ pub fn procedure_reference(x: ProcedureReferenceSymbol, out: &mut [u64; 24]) -> 
     out[7] = super::field::has_part(name);
     out[8] = super::field::start_or_zero(name);
     out[9] = super::field::len_or_zero(name);
-    13
+    classes::PROCEDURE_REFERENCE
 }
 
 pub fn data_reference(x: DataReferenceSymbol, out: &mut [u64; 24]) -> u64
@@ -101,7 +102,7 @@ pub fn data_reference(x: DataReferenceSymbol, out: &mut [u64; 24]) -> u64
     out[6] = super::field::has_part(name);
     out[7] = super::field::start_or_zero(name);
     out[8] = super::field::len_or_zero(name);
-    14
+    classes::DATA_REFERENCE
 }
 
 pub fn annotation_reference(x: AnnotationReferenceSymbol, out: &mut [u64; 24]) -> u64
@@ -115,7 +116,7 @@ pub fn annotation_reference(x: AnnotationReferenceSymbol, out: &mut [u64; 24]) -
     out[5] = super::field::or_zero16(module);
     out[6] = name.start as u64;
     out[7] = name.len as u64;
-    15
+    classes::ANNOTATION_REFERENCE
 }
 
 pub fn export_symbol(x: ExportSymbol, out: &mut [u64; 24]) -> u64
@@ -127,12 +128,12 @@ pub fn export_symbol(x: ExportSymbol, out: &mut [u64; 24]) -> u64
     out[3] = super::field::export_bits(flags);
     out[4] = name.start as u64;
     out[5] = name.len as u64;
-    17
+    classes::EXPORT
 }
 
 pub fn build_info(x: BuildInfoSymbol, out: &mut [u64; 24]) -> u64
     ensures { λ r. ⌜ Stored (D.BuildInfo x) r (now (out .entry)) (now (out .exit)) ⌝ }
 {
     out[2] = x.id as u64;
-    19
+    classes::BUILD_INFO
 }

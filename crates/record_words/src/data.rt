@@ -3,6 +3,7 @@
 // Each function stores the fields of its record from place 2 on, straight into the lent words, and answers the number of the class.
 ghost use Rattle.records.specs.declared.SymbolData.the-variants as D;
 ghost use Rattle.record_words.specs.Stored.{Stored};
+use constants::classes;
 use records::ConstantSymbol;
 use records::DataSymbol;
 use records::LocalSymbol;
@@ -20,7 +21,7 @@ pub fn register_variable(x: RegisterVariableSymbol, out: &mut [u64; 24]) -> u64
     out[3] = x.register as u64;
     out[4] = name.start as u64;
     out[5] = name.len as u64;
-    3
+    classes::REGISTER_VARIABLE
 }
 
 pub fn constant(x: ConstantSymbol, out: &mut [u64; 24]) -> u64
@@ -34,7 +35,7 @@ pub fn constant(x: ConstantSymbol, out: &mut [u64; 24]) -> u64
     out[5] = super::field::variant_value(value);
     out[6] = name.start as u64;
     out[7] = name.len as u64;
-    4
+    classes::CONSTANT
 }
 
 pub fn user_defined_type(x: UserDefinedTypeSymbol, out: &mut [u64; 24]) -> u64
@@ -44,7 +45,7 @@ pub fn user_defined_type(x: UserDefinedTypeSymbol, out: &mut [u64; 24]) -> u64
     out[2] = x.type_index as u64;
     out[3] = name.start as u64;
     out[4] = name.len as u64;
-    5
+    classes::USER_DEFINED_TYPE
 }
 
 pub fn multi_register_variable(x: MultiRegisterVariableSymbol, out: &mut [u64; 24]) -> u64
@@ -53,7 +54,7 @@ pub fn multi_register_variable(x: MultiRegisterVariableSymbol, out: &mut [u64; 2
     out[2] = x.type_index as u64;
     out[3] = x.count as u64;
     out[4] = x.first as u64;
-    6
+    classes::MULTI_REGISTER_VARIABLE
 }
 
 pub fn data_item(x: DataSymbol, out: &mut [u64; 24]) -> u64
@@ -68,7 +69,7 @@ pub fn data_item(x: DataSymbol, out: &mut [u64; 24]) -> u64
     out[6] = place.section as u64;
     out[7] = name.start as u64;
     out[8] = name.len as u64;
-    7
+    classes::DATA
 }
 
 pub fn thread_storage(x: ThreadStorageSymbol, out: &mut [u64; 24]) -> u64
@@ -82,7 +83,7 @@ pub fn thread_storage(x: ThreadStorageSymbol, out: &mut [u64; 24]) -> u64
     out[5] = place.section as u64;
     out[6] = name.start as u64;
     out[7] = name.len as u64;
-    10
+    classes::THREAD_STORAGE
 }
 
 pub fn local(x: LocalSymbol, out: &mut [u64; 24]) -> u64
@@ -94,7 +95,7 @@ pub fn local(x: LocalSymbol, out: &mut [u64; 24]) -> u64
     out[3] = super::field::local_bits(flags);
     out[4] = name.start as u64;
     out[5] = name.len as u64;
-    18
+    classes::LOCAL
 }
 
 pub fn register_relative(x: RegisterRelativeSymbol, out: &mut [u64; 24]) -> u64
@@ -106,5 +107,5 @@ pub fn register_relative(x: RegisterRelativeSymbol, out: &mut [u64; 24]) -> u64
     out[4] = x.register as u64;
     out[5] = name.start as u64;
     out[6] = name.len as u64;
-    25
+    classes::REGISTER_RELATIVE
 }
