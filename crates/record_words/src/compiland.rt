@@ -1,8 +1,11 @@
 // The fields of the records that speak of a module as a whole, and of what links it with others, as words.
 //
 // Each function stores the fields of its record from place 2 on, straight into the lent words, and answers the number of the class.
-ghost use Rattle.records.specs.declared.SymbolData.the-variants as D;
-ghost use Rattle.record_words.specs.Stored.{Stored};
+ghost use mathlib.Core.Path.{_≡_};
+ghost use lib.Seq.{sets};
+ghost use Rattle.constants.specs.Kind.{classNumber};
+ghost use Rattle.constants.specs.declared.Class.the-variants as Class;
+ghost use Rattle.record_words.specs.Record.{objNameWords, publicWords, compileFlagsWords, usingNamespaceWords, procedureReferenceWords, dataReferenceWords, annotationReferenceWords, exportWords, buildInfoWords};
 use constants::classes;
 use records::AnnotationReferenceSymbol;
 use records::BuildInfoSymbol;
@@ -15,7 +18,8 @@ use records::PublicSymbol;
 use records::UsingNamespaceSymbol;
 
 pub fn obj_name(x: ObjNameSymbol, out: &mut [u64; 24]) -> u64
-    ensures { λ r. ⌜ Stored (D.ObjName x) r (now (out .entry)) (now (out .exit)) ⌝ }
+    ensures class { λ r. ⌜ r ≡ classNumber Class.ObjName ⌝ }
+    ensures fields { λ _. ⌜ now (out .exit) ≡ sets (now (out .entry)) 2 (objNameWords x) ⌝ }
 {
     let name = x.name;
     out[2] = x.signature as u64;
@@ -25,7 +29,8 @@ pub fn obj_name(x: ObjNameSymbol, out: &mut [u64; 24]) -> u64
 }
 
 pub fn public_symbol(x: PublicSymbol, out: &mut [u64; 24]) -> u64
-    ensures { λ r. ⌜ Stored (D.Public x) r (now (out .entry)) (now (out .exit)) ⌝ }
+    ensures class { λ r. ⌜ r ≡ classNumber Class.Public ⌝ }
+    ensures fields { λ _. ⌜ now (out .exit) ≡ sets (now (out .entry)) 2 (publicWords x) ⌝ }
 {
     let flags = x.flags;
     let place = x.offset;
@@ -39,7 +44,8 @@ pub fn public_symbol(x: PublicSymbol, out: &mut [u64; 24]) -> u64
 }
 
 pub fn compile_flags(x: CompileFlagsSymbol, out: &mut [u64; 24]) -> u64
-    ensures { λ r. ⌜ Stored (D.CompileFlags x) r (now (out .entry)) (now (out .exit)) ⌝ }
+    ensures class { λ r. ⌜ r ≡ classNumber Class.CompileFlags ⌝ }
+    ensures fields { λ _. ⌜ now (out .exit) ≡ sets (now (out .entry)) 2 (compileFlagsWords x) ⌝ }
 {
     let flags = x.flags;
     let front = x.frontend_version;
@@ -66,7 +72,8 @@ pub fn compile_flags(x: CompileFlagsSymbol, out: &mut [u64; 24]) -> u64
 }
 
 pub fn using_namespace(x: UsingNamespaceSymbol, out: &mut [u64; 24]) -> u64
-    ensures { λ r. ⌜ Stored (D.UsingNamespace x) r (now (out .entry)) (now (out .exit)) ⌝ }
+    ensures class { λ r. ⌜ r ≡ classNumber Class.UsingNamespace ⌝ }
+    ensures fields { λ _. ⌜ now (out .exit) ≡ sets (now (out .entry)) 2 (usingNamespaceWords x) ⌝ }
 {
     let name = x.name;
     out[2] = name.start as u64;
@@ -75,7 +82,8 @@ pub fn using_namespace(x: UsingNamespaceSymbol, out: &mut [u64; 24]) -> u64
 }
 
 pub fn procedure_reference(x: ProcedureReferenceSymbol, out: &mut [u64; 24]) -> u64
-    ensures { λ r. ⌜ Stored (D.ProcedureReference x) r (now (out .entry)) (now (out .exit)) ⌝ }
+    ensures class { λ r. ⌜ r ≡ classNumber Class.ProcedureReference ⌝ }
+    ensures fields { λ _. ⌜ now (out .exit) ≡ sets (now (out .entry)) 2 (procedureReferenceWords x) ⌝ }
 {
     let module = x.module;
     let name = x.name;
@@ -91,7 +99,8 @@ pub fn procedure_reference(x: ProcedureReferenceSymbol, out: &mut [u64; 24]) -> 
 }
 
 pub fn data_reference(x: DataReferenceSymbol, out: &mut [u64; 24]) -> u64
-    ensures { λ r. ⌜ Stored (D.DataReference x) r (now (out .entry)) (now (out .exit)) ⌝ }
+    ensures class { λ r. ⌜ r ≡ classNumber Class.DataReference ⌝ }
+    ensures fields { λ _. ⌜ now (out .exit) ≡ sets (now (out .entry)) 2 (dataReferenceWords x) ⌝ }
 {
     let module = x.module;
     let name = x.name;
@@ -106,7 +115,8 @@ pub fn data_reference(x: DataReferenceSymbol, out: &mut [u64; 24]) -> u64
 }
 
 pub fn annotation_reference(x: AnnotationReferenceSymbol, out: &mut [u64; 24]) -> u64
-    ensures { λ r. ⌜ Stored (D.AnnotationReference x) r (now (out .entry)) (now (out .exit)) ⌝ }
+    ensures class { λ r. ⌜ r ≡ classNumber Class.AnnotationReference ⌝ }
+    ensures fields { λ _. ⌜ now (out .exit) ≡ sets (now (out .entry)) 2 (annotationReferenceWords x) ⌝ }
 {
     let module = x.module;
     let name = x.name;
@@ -120,7 +130,8 @@ pub fn annotation_reference(x: AnnotationReferenceSymbol, out: &mut [u64; 24]) -
 }
 
 pub fn export_symbol(x: ExportSymbol, out: &mut [u64; 24]) -> u64
-    ensures { λ r. ⌜ Stored (D.Export x) r (now (out .entry)) (now (out .exit)) ⌝ }
+    ensures class { λ r. ⌜ r ≡ classNumber Class.Export ⌝ }
+    ensures fields { λ _. ⌜ now (out .exit) ≡ sets (now (out .entry)) 2 (exportWords x) ⌝ }
 {
     let flags = x.flags;
     let name = x.name;
@@ -132,7 +143,8 @@ pub fn export_symbol(x: ExportSymbol, out: &mut [u64; 24]) -> u64
 }
 
 pub fn build_info(x: BuildInfoSymbol, out: &mut [u64; 24]) -> u64
-    ensures { λ r. ⌜ Stored (D.BuildInfo x) r (now (out .entry)) (now (out .exit)) ⌝ }
+    ensures class { λ r. ⌜ r ≡ classNumber Class.BuildInfo ⌝ }
+    ensures fields { λ _. ⌜ now (out .exit) ≡ sets (now (out .entry)) 2 (buildInfoWords x) ⌝ }
 {
     out[2] = x.id as u64;
     classes::BUILD_INFO
