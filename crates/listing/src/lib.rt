@@ -1,6 +1,6 @@
 // The listing of a stream: for each record a line with its index, its kind and its name.
 //
-// No contract can say what is printed. How the bytes of a name are shown can be said without printing: see crate shown.
+// No contract can say what is printed. How the bytes of a name are shown can be said without printing: see module shown.
 pub mod shown;
 
 ghost use mathlib.Core.Path.{_≡_};
@@ -19,6 +19,7 @@ pub fn stream_room() -> [u8; MAX_LISTED + 1]
     [0; MAX_LISTED + 1]
 }
 
+// The bytes of a name as they are shown, a piece at a time.
 fn print_shown(name: &[u8]) {
     let mut space = [0u8; 64];
     let piece: &mut [u8] = &mut space;
@@ -46,6 +47,7 @@ fn print_name(record: &[u8]) {
     }
 }
 
+// A line: the index, four hexadecimal digits of the kind, and the name.
 fn print_record(index: usize, record: &[u8]) {
     io::print_decimal(1, index as u64);
     io::write_all(1, b" ");
@@ -55,6 +57,7 @@ fn print_record(index: usize, record: &[u8]) {
     io::write_all(1, b"\n");
 }
 
+// The line that ends a listing: `refused`, the number and the position.
 fn print_refused(number: u8, position: usize) {
     io::write_all(1, b"refused ");
     io::print_decimal(1, number as u64);

@@ -4,7 +4,7 @@ use mathlib.Core.Path.{_≡_, refl, _∙_, subst}
 use mathlib.Core.List.{List, [], _∷_}
 use Prim.Native.Nat.{ℕ}
 use Rattle.constants.specs.Kind.{startsScope, endsScope}
-use Rattle.record_words.specs.Fields.{truth}
+use Rattle.words.specs.Word.{truth}
 use Rattle.words.specs.Written.{written}
 use Rattle.reply.specs.Reply.{Reply, Replied}
 use Rattle.reply.specs.Replies.{kindReply}

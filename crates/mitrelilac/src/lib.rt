@@ -15,8 +15,7 @@ ghost use Rattle.reply.specs.Reply.{Replied};
 ghost use Rattle.reply.specs.Replies.{stepReply, kindReply, decodeReply, nameReply, entryReply, checkReply, findingReply, ascentReply};
 use records::Decoded;
 
-// One step from a position. End: 0 and the position. A record: 1, its index, where its bytes start, how many they are, and the next
-// position.
+// One step from a position. End: 0, position. A record: 1, index, where its bytes start, how many they are, next position.
 #[no_mangle]
 pub extern "C" fn mitrelilac_step(stream: &[u8], position: usize, out: &mut [u64; 5]) -> u32
     ensures { λ r. ⌜ Replied (stepReply (stepOf (now (stream .entry)) position)) r (now (out .entry)) (now (out .exit)) ⌝ }
@@ -24,7 +23,7 @@ pub extern "C" fn mitrelilac_step(stream: &[u8], position: usize, out: &mut [u64
     reply::operation::reply_step(iter::step(stream, position), out)
 }
 
-// The kind of a record, 1 if it opens a scope, and 1 if it closes one.
+// The kind of a record, 1 if it opens a scope, 1 if it closes one. Never refuses.
 #[no_mangle]
 pub extern "C" fn mitrelilac_kind(rec: &[u8], out: &mut [u64; 3]) -> u32
     ensures { λ r. ⌜ Replied (kindReply (rawKind (now (rec .entry)))) r (now (out .entry)) (now (out .exit)) ⌝ }
@@ -50,7 +49,7 @@ pub extern "C" fn mitrelilac_decode(rec: &[u8], out: &mut [u64; 24]) -> u32
     }
 }
 
-// 1 and where the name starts and how long it is; 0, 0, 0 where the record has none.
+// The name of a record: 1, where it starts, how long it is; 0, 0, 0 where there is none.
 #[no_mangle]
 pub extern "C" fn mitrelilac_name(rec: &[u8], out: &mut [u64; 3]) -> u32
     ensures { λ r. ⌜ Replied (nameReply (nameOf (now (rec .entry)))) r (now (out .entry)) (now (out .exit)) ⌝ }
@@ -58,7 +57,7 @@ pub extern "C" fn mitrelilac_name(rec: &[u8], out: &mut [u64; 3]) -> u32
     reply::operation::reply_name(symbol::name::name(rec), out)
 }
 
-// The entry k of a register list: the register, and where its name starts and how long it is.
+// The entry k of a register list, from 0 on: the register, where its name starts, how long it is.
 #[no_mangle]
 pub extern "C" fn mitrelilac_register_entry(rec: &[u8], k: usize, out: &mut [u64; 3]) -> u32
     ensures { λ r. ⌜ Replied (entryReply (registerEntry (now (rec .entry)) k)) r (now (out .entry)) (now (out .exit)) ⌝ }
@@ -66,7 +65,7 @@ pub extern "C" fn mitrelilac_register_entry(rec: &[u8], k: usize, out: &mut [u64
     reply::operation::reply_entry(symbol::register_entry::register_entry(rec, k), out)
 }
 
-// The nesting check. The records read and their bytes, the records passed over and theirs, openers, deepest nesting.
+// The nesting check from a start: records read and their bytes, records passed over and theirs, openers, deepest nesting.
 #[no_mangle]
 pub extern "C" fn mitrelilac_check(stream: &[u8], start: usize, out: &mut [u64; 6]) -> u32
     ensures { λ r. ⌜ Replied (checkReply (checkOf (now (stream .entry)) start)) r (now (out .entry)) (now (out .exit)) ⌝ }
@@ -74,7 +73,7 @@ pub extern "C" fn mitrelilac_check(stream: &[u8], start: usize, out: &mut [u64; 
     reply::operation::reply_check(check_nesting::check(stream, start), out)
 }
 
-// The scopes that enclose the record at i, by steps from start: the number of records read, how many scopes there are, and 64 places
+// The scopes that enclose the record at i, by steps from a start: the number of records read, how many scopes there are, and 64 places
 // that list them, the outermost first, 0 behind them.
 #[no_mangle]
 pub extern "C" fn mitrelilac_walk(stream: &[u8], start: usize, i: usize, out: &mut [u64; 66]) -> u32
@@ -86,7 +85,7 @@ pub extern "C" fn mitrelilac_walk(stream: &[u8], start: usize, i: usize, out: &m
     reply::reply_chain(found, f.read, chain, out)
 }
 
-// The same as walking, where scopes that close before i are jumped over.
+// As walking, but scopes that close before i are jumped over.
 #[no_mangle]
 pub extern "C" fn mitrelilac_jump(stream: &[u8], start: usize, i: usize, out: &mut [u64; 66]) -> u32
     ensures { λ r. ⌜ Replied (findingReply (jumpOf (now (stream .entry)) start i)) r (now (out .entry)) (now (out .exit)) ⌝ }
@@ -97,8 +96,7 @@ pub extern "C" fn mitrelilac_jump(stream: &[u8], start: usize, i: usize, out: &m
     reply::reply_chain(found, f.read, chain, out)
 }
 
-// The scopes that enclose the opener at i, by parent fields: the number of links, how many scopes there are, and 64 places that list
-// them, the innermost first, 0 behind them.
+// The scopes that enclose the opener at i, by parent fields: the number of links, then as walking, but the innermost first.
 #[no_mangle]
 pub extern "C" fn mitrelilac_climb(stream: &[u8], i: usize, out: &mut [u64; 66]) -> u32
     ensures { λ r. ⌜ Replied (ascentReply (climbOf (now (stream .entry)) i)) r (now (out .entry)) (now (out .exit)) ⌝ }

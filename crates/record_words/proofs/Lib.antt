@@ -1,2 +1,1 @@
 mod Stores
-pub mod Signed

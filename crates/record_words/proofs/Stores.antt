@@ -7,11 +7,11 @@ use native.Mathlib.Omega.{arith}
 use lib.Dec.{lit≤}
 use lib.ListN.{length, take, drop}
 use lib.Seq.{sets, sets-eq, length-sets, length-take-le, drop-at}
+use Rattle.constants.specs.Kind.{classNumber}
 use Rattle.records.specs.declared.SymbolData.{SymbolData}
 use Rattle.records.specs.declared.SymbolData.the-variants as D
 use Rattle.words.specs.Written.{written}
-use Rattle.record_words.specs.Record.{classNumber, fields, recordWords}
-use Rattle.record_words.specs.Stored.{Stored}
+use Rattle.record_words.specs.Record.{classIn, fieldWords, recordWords}
 
 -- stores from place 2 on, and then two words before them
 two-before : (a b : ℕ) (words before : List ℕ) → 2 + length words ≤ length before →
@@ -25,7 +25,7 @@ two-before a b words before h =
     ∙ ap (λ (l : List ℕ). a ∷ b ∷ l) (drop-at (take 2 before) (words ++ rest) 2 two)
     ∙ ap (λ (n : ℕ). a ∷ b ∷ (words ++ drop n before)) next
 
-fields-fit : (d : SymbolData) → length (fields d) ≤ 22
+fields-fit : (d : SymbolData) → length (fieldWords d) ≤ 22
 fields-fit D.ScopeEnd = lit≤ tt
 fields-fit (D.ObjName x) = lit≤ tt
 fields-fit (D.RegisterVariable x) = lit≤ tt
@@ -55,9 +55,10 @@ fields-fit (D.Thunk x) = lit≤ tt
 fields-fit (D.SeparatedCode x) = lit≤ tt
 
 -- a record's fields, and then its class and the bytes consumed before them
-pub record-written : (d : SymbolData) (class consumed : ℕ) (before between : List ℕ) → length between ≡ 24 → Stored d class before between →
+pub record-written : (d : SymbolData) (class consumed : ℕ) (before between : List ℕ) → length between ≡ 24 →
+    (class ≡ classNumber (classIn d)) × (between ≡ sets before 2 (fieldWords d)) →
     written (class ∷ consumed ∷ []) between ≡ written (recordWords d consumed) before
 unfolding recordWords
-record-written d class consumed before between e g =
-    let long : length before ≡ 24 = sym (length-sets before 2 (fields d)) ∙ sym (ap length (g .stores)) ∙ e in
-    rw (g .class, g .stores) (two-before (classNumber d) consumed (fields d) before (let f = fields-fit d in omega arith))
+record-written d class consumed before between e (is, stores) =
+    let long : length before ≡ 24 = sym (length-sets before 2 (fieldWords d)) ∙ sym (ap length stores) ∙ e in
+    rw (is, stores) (two-before (classNumber (classIn d)) consumed (fieldWords d) before (let f = fields-fit d in omega arith))

@@ -1,9 +1,8 @@
 -- Fields that are no plain numbers, as words.
-use Prim.Native.Nat.{ℕ, suc, _-_, _^_}
-use mathlib.Core.Bool.{Bool, cond}
-use lib.IntN.{ℤ, pos, negsuc}
+use Prim.Native.Nat.{ℕ}
 use Rattle.variant.specs.declared.Variant.{Variant}
 use Rattle.variant.specs.declared.Variant.the-variants.{U8, U16, U32, U64, I16, I32, I64}
+use Rattle.words.specs.Word.{signedWord}
 use Rattle.records.specs.declared.OptionU16.{OptionU16}
 use Rattle.records.specs.declared.OptionU16.the-variants as O16
 use Rattle.records.specs.declared.OptionU32.{OptionU32}
@@ -14,15 +13,6 @@ use Rattle.records.specs.declared.TrampolineType.{TrampolineType}
 use Rattle.records.specs.declared.TrampolineType.the-variants.{Incremental, BranchIsland, Unknown as UnknownTrampoline}
 use Rattle.records.specs.declared.ThunkKind.{ThunkKind}
 use Rattle.records.specs.declared.ThunkKind.the-variants.{NoType, Adjustor, VCall, PCode, Load, Unknown}
-
--- 1 for true, 0 for false
-abbrev pub truth : Bool → ℕ
-truth b = cond b 1 0
-
--- a signed number in two's complement; `negsuc n` is -(n + 1)
-abbrev pub signedWord : ℤ → ℕ
-signedWord (pos n) = n
-signedWord (negsuc n) = 2 ^ 64 - suc n
 
 -- what may be missing: whether it is there, and what it is, 0 where it is missing (for an OptionU32, `orZero32` of records)
 abbrev pub has16 : OptionU16 → ℕ

@@ -8,7 +8,7 @@ use Rattle.records.specs.declared.flags.CompileFlags.{CompileFlags}
 use Rattle.records.specs.declared.flags.ExportSymbolFlags.{ExportSymbolFlags}
 use Rattle.records.specs.declared.flags.LocalVariableFlags.{LocalVariableFlags}
 use Rattle.records.specs.declared.flags.SeparatedCodeFlags.{SeparatedCodeFlags}
-use Rattle.record_words.specs.Fields.{truth}
+use Rattle.words.specs.Word.{truth}
 
 -- a bit for each flag, the lowest first
 abbrev pub bits : List Bool → ℕ

@@ -1,4 +1,3 @@
 pub mod Fields
 pub mod Flags
 pub mod Record
-pub mod Stored

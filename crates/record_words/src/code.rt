@@ -1,8 +1,12 @@
 // The fields of the records that speak of code, as words.
 //
 // Each function stores the fields of its record from place 2 on, straight into the lent words, and answers the number of the class.
-ghost use Rattle.records.specs.declared.SymbolData.the-variants as D;
-ghost use Rattle.record_words.specs.Stored.{Stored};
+ghost use mathlib.Core.Path.{_≡_};
+ghost use lib.Seq.{sets};
+ghost use Rattle.constants.specs.Kind.{classNumber};
+ghost use Rattle.constants.specs.declared.Class.the-variants as Class;
+ghost use Rattle.record_words.specs.Record.{procedureWords, trampolineWords, inlineSiteWords, labelWords, blockWords, thunkWords, separatedCodeWords};
+use constants::classes;
 use records::BlockSymbol;
 use records::InlineSiteSymbol;
 use records::LabelSymbol;
@@ -12,7 +16,8 @@ use records::ThunkSymbol;
 use records::TrampolineSymbol;
 
 pub fn procedure(x: ProcedureSymbol, out: &mut [u64; 24]) -> u64
-    ensures { λ r. ⌜ Stored (D.Procedure x) r (now (out .entry)) (now (out .exit)) ⌝ }
+    ensures class { λ r. ⌜ r ≡ classNumber Class.Procedure ⌝ }
+    ensures fields { λ _. ⌜ now (out .exit) ≡ sets (now (out .entry)) 2 (procedureWords x) ⌝ }
 {
     let parent = x.parent;
     let next = x.next;
@@ -33,11 +38,28 @@ pub fn procedure(x: ProcedureSymbol, out: &mut [u64; 24]) -> u64
     out[13] = super::field::procedure_bits(flags);
     out[14] = name.start as u64;
     out[15] = name.len as u64;
-    9
+    classes::PROCEDURE
+}
+
+pub fn trampoline(x: TrampolineSymbol, out: &mut [u64; 24]) -> u64
+    ensures class { λ r. ⌜ r ≡ classNumber Class.Trampoline ⌝ }
+    ensures fields { λ _. ⌜ now (out .exit) ≡ sets (now (out .entry)) 2 (trampolineWords x) ⌝ }
+{
+    let sort = x.tramp_type;
+    let thunk = x.thunk;
+    let target = x.target;
+    out[2] = super::field::trampoline_number(sort);
+    out[3] = x.size as u64;
+    out[4] = thunk.offset as u64;
+    out[5] = thunk.section as u64;
+    out[6] = target.offset as u64;
+    out[7] = target.section as u64;
+    classes::TRAMPOLINE
 }
 
 pub fn inline_site(x: InlineSiteSymbol, out: &mut [u64; 24]) -> u64
-    ensures { λ r. ⌜ Stored (D.InlineSite x) r (now (out .entry)) (now (out .exit)) ⌝ }
+    ensures class { λ r. ⌜ r ≡ classNumber Class.InlineSite ⌝ }
+    ensures fields { λ _. ⌜ now (out .exit) ≡ sets (now (out .entry)) 2 (inlineSiteWords x) ⌝ }
 {
     let parent = x.parent;
     let invocations = x.invocations;
@@ -49,11 +71,12 @@ pub fn inline_site(x: InlineSiteSymbol, out: &mut [u64; 24]) -> u64
     out[6] = super::field::or_zero32(invocations);
     out[7] = annotations.start as u64;
     out[8] = annotations.len as u64;
-    20
+    classes::INLINE_SITE
 }
 
 pub fn label(x: LabelSymbol, out: &mut [u64; 24]) -> u64
-    ensures { λ r. ⌜ Stored (D.Label x) r (now (out .entry)) (now (out .exit)) ⌝ }
+    ensures class { λ r. ⌜ r ≡ classNumber Class.Label ⌝ }
+    ensures fields { λ _. ⌜ now (out .exit) ≡ sets (now (out .entry)) 2 (labelWords x) ⌝ }
 {
     let place = x.offset;
     let flags = x.flags;
@@ -63,11 +86,12 @@ pub fn label(x: LabelSymbol, out: &mut [u64; 24]) -> u64
     out[4] = super::field::procedure_bits(flags);
     out[5] = name.start as u64;
     out[6] = name.len as u64;
-    23
+    classes::LABEL
 }
 
 pub fn block(x: BlockSymbol, out: &mut [u64; 24]) -> u64
-    ensures { λ r. ⌜ Stored (D.Block x) r (now (out .entry)) (now (out .exit)) ⌝ }
+    ensures class { λ r. ⌜ r ≡ classNumber Class.Block ⌝ }
+    ensures fields { λ _. ⌜ now (out .exit) ≡ sets (now (out .entry)) 2 (blockWords x) ⌝ }
 {
     let place = x.offset;
     let name = x.name;
@@ -78,28 +102,12 @@ pub fn block(x: BlockSymbol, out: &mut [u64; 24]) -> u64
     out[6] = place.section as u64;
     out[7] = name.start as u64;
     out[8] = name.len as u64;
-    24
-}
-
-pub fn separated_code(x: SeparatedCodeSymbol, out: &mut [u64; 24]) -> u64
-    ensures { λ r. ⌜ Stored (D.SeparatedCode x) r (now (out .entry)) (now (out .exit)) ⌝ }
-{
-    let flags = x.flags;
-    let place = x.offset;
-    let parent_place = x.parent_offset;
-    out[2] = x.parent as u64;
-    out[3] = x.end as u64;
-    out[4] = x.len as u64;
-    out[5] = super::field::separated_bits(flags);
-    out[6] = place.offset as u64;
-    out[7] = place.section as u64;
-    out[8] = parent_place.offset as u64;
-    out[9] = parent_place.section as u64;
-    27
+    classes::BLOCK
 }
 
 pub fn thunk(x: ThunkSymbol, out: &mut [u64; 24]) -> u64
-    ensures { λ r. ⌜ Stored (D.Thunk x) r (now (out .entry)) (now (out .exit)) ⌝ }
+    ensures class { λ r. ⌜ r ≡ classNumber Class.Thunk ⌝ }
+    ensures fields { λ _. ⌜ now (out .exit) ≡ sets (now (out .entry)) 2 (thunkWords x) ⌝ }
 {
     let parent = x.parent;
     let next = x.next;
@@ -118,20 +126,23 @@ pub fn thunk(x: ThunkSymbol, out: &mut [u64; 24]) -> u64
     out[11] = super::field::target_len(kind);
     out[12] = name.start as u64;
     out[13] = name.len as u64;
-    26
+    classes::THUNK
 }
 
-pub fn trampoline(x: TrampolineSymbol, out: &mut [u64; 24]) -> u64
-    ensures { λ r. ⌜ Stored (D.Trampoline x) r (now (out .entry)) (now (out .exit)) ⌝ }
+pub fn separated_code(x: SeparatedCodeSymbol, out: &mut [u64; 24]) -> u64
+    ensures class { λ r. ⌜ r ≡ classNumber Class.SeparatedCode ⌝ }
+    ensures fields { λ _. ⌜ now (out .exit) ≡ sets (now (out .entry)) 2 (separatedCodeWords x) ⌝ }
 {
-    let sort = x.tramp_type;
-    let thunk = x.thunk;
-    let target = x.target;
-    out[2] = super::field::trampoline_number(sort);
-    out[3] = x.size as u64;
-    out[4] = thunk.offset as u64;
-    out[5] = thunk.section as u64;
-    out[6] = target.offset as u64;
-    out[7] = target.section as u64;
-    16
+    let flags = x.flags;
+    let place = x.offset;
+    let parent_place = x.parent_offset;
+    out[2] = x.parent as u64;
+    out[3] = x.end as u64;
+    out[4] = x.len as u64;
+    out[5] = super::field::separated_bits(flags);
+    out[6] = place.offset as u64;
+    out[7] = place.section as u64;
+    out[8] = parent_place.offset as u64;
+    out[9] = parent_place.section as u64;
+    classes::SEPARATED_CODE
 }

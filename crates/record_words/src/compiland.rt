@@ -1,8 +1,12 @@
 // The fields of the records that speak of a module as a whole, and of what links it with others, as words.
 //
 // Each function stores the fields of its record from place 2 on, straight into the lent words, and answers the number of the class.
-ghost use Rattle.records.specs.declared.SymbolData.the-variants as D;
-ghost use Rattle.record_words.specs.Stored.{Stored};
+ghost use mathlib.Core.Path.{_≡_};
+ghost use lib.Seq.{sets};
+ghost use Rattle.constants.specs.Kind.{classNumber};
+ghost use Rattle.constants.specs.declared.Class.the-variants as Class;
+ghost use Rattle.record_words.specs.Record.{objNameWords, publicWords, compileFlagsWords, usingNamespaceWords, procedureReferenceWords, dataReferenceWords, annotationReferenceWords, exportWords, buildInfoWords};
+use constants::classes;
 use records::AnnotationReferenceSymbol;
 use records::BuildInfoSymbol;
 use records::CompileFlagsSymbol;
@@ -14,17 +18,19 @@ use records::PublicSymbol;
 use records::UsingNamespaceSymbol;
 
 pub fn obj_name(x: ObjNameSymbol, out: &mut [u64; 24]) -> u64
-    ensures { λ r. ⌜ Stored (D.ObjName x) r (now (out .entry)) (now (out .exit)) ⌝ }
+    ensures class { λ r. ⌜ r ≡ classNumber Class.ObjName ⌝ }
+    ensures fields { λ _. ⌜ now (out .exit) ≡ sets (now (out .entry)) 2 (objNameWords x) ⌝ }
 {
     let name = x.name;
     out[2] = x.signature as u64;
     out[3] = name.start as u64;
     out[4] = name.len as u64;
-    2
+    classes::OBJ_NAME
 }
 
 pub fn public_symbol(x: PublicSymbol, out: &mut [u64; 24]) -> u64
-    ensures { λ r. ⌜ Stored (D.Public x) r (now (out .entry)) (now (out .exit)) ⌝ }
+    ensures class { λ r. ⌜ r ≡ classNumber Class.Public ⌝ }
+    ensures fields { λ _. ⌜ now (out .exit) ≡ sets (now (out .entry)) 2 (publicWords x) ⌝ }
 {
     let flags = x.flags;
     let place = x.offset;
@@ -34,11 +40,12 @@ pub fn public_symbol(x: PublicSymbol, out: &mut [u64; 24]) -> u64
     out[4] = place.section as u64;
     out[5] = name.start as u64;
     out[6] = name.len as u64;
-    8
+    classes::PUBLIC
 }
 
 pub fn compile_flags(x: CompileFlagsSymbol, out: &mut [u64; 24]) -> u64
-    ensures { λ r. ⌜ Stored (D.CompileFlags x) r (now (out .entry)) (now (out .exit)) ⌝ }
+    ensures class { λ r. ⌜ r ≡ classNumber Class.CompileFlags ⌝ }
+    ensures fields { λ _. ⌜ now (out .exit) ≡ sets (now (out .entry)) 2 (compileFlagsWords x) ⌝ }
 {
     let flags = x.flags;
     let front = x.frontend_version;
@@ -61,20 +68,22 @@ pub fn compile_flags(x: CompileFlagsSymbol, out: &mut [u64; 24]) -> u64
     out[14] = super::field::or_zero16(back_qfe);
     out[15] = name.start as u64;
     out[16] = name.len as u64;
-    11
+    classes::COMPILE_FLAGS
 }
 
 pub fn using_namespace(x: UsingNamespaceSymbol, out: &mut [u64; 24]) -> u64
-    ensures { λ r. ⌜ Stored (D.UsingNamespace x) r (now (out .entry)) (now (out .exit)) ⌝ }
+    ensures class { λ r. ⌜ r ≡ classNumber Class.UsingNamespace ⌝ }
+    ensures fields { λ _. ⌜ now (out .exit) ≡ sets (now (out .entry)) 2 (usingNamespaceWords x) ⌝ }
 {
     let name = x.name;
     out[2] = name.start as u64;
     out[3] = name.len as u64;
-    12
+    classes::USING_NAMESPACE
 }
 
 pub fn procedure_reference(x: ProcedureReferenceSymbol, out: &mut [u64; 24]) -> u64
-    ensures { λ r. ⌜ Stored (D.ProcedureReference x) r (now (out .entry)) (now (out .exit)) ⌝ }
+    ensures class { λ r. ⌜ r ≡ classNumber Class.ProcedureReference ⌝ }
+    ensures fields { λ _. ⌜ now (out .exit) ≡ sets (now (out .entry)) 2 (procedureReferenceWords x) ⌝ }
 {
     let module = x.module;
     let name = x.name;
@@ -86,11 +95,12 @@ pub fn procedure_reference(x: ProcedureReferenceSymbol, out: &mut [u64; 24]) -> 
     out[7] = super::field::has_part(name);
     out[8] = super::field::start_or_zero(name);
     out[9] = super::field::len_or_zero(name);
-    13
+    classes::PROCEDURE_REFERENCE
 }
 
 pub fn data_reference(x: DataReferenceSymbol, out: &mut [u64; 24]) -> u64
-    ensures { λ r. ⌜ Stored (D.DataReference x) r (now (out .entry)) (now (out .exit)) ⌝ }
+    ensures class { λ r. ⌜ r ≡ classNumber Class.DataReference ⌝ }
+    ensures fields { λ _. ⌜ now (out .exit) ≡ sets (now (out .entry)) 2 (dataReferenceWords x) ⌝ }
 {
     let module = x.module;
     let name = x.name;
@@ -101,11 +111,12 @@ pub fn data_reference(x: DataReferenceSymbol, out: &mut [u64; 24]) -> u64
     out[6] = super::field::has_part(name);
     out[7] = super::field::start_or_zero(name);
     out[8] = super::field::len_or_zero(name);
-    14
+    classes::DATA_REFERENCE
 }
 
 pub fn annotation_reference(x: AnnotationReferenceSymbol, out: &mut [u64; 24]) -> u64
-    ensures { λ r. ⌜ Stored (D.AnnotationReference x) r (now (out .entry)) (now (out .exit)) ⌝ }
+    ensures class { λ r. ⌜ r ≡ classNumber Class.AnnotationReference ⌝ }
+    ensures fields { λ _. ⌜ now (out .exit) ≡ sets (now (out .entry)) 2 (annotationReferenceWords x) ⌝ }
 {
     let module = x.module;
     let name = x.name;
@@ -115,11 +126,12 @@ pub fn annotation_reference(x: AnnotationReferenceSymbol, out: &mut [u64; 24]) -
     out[5] = super::field::or_zero16(module);
     out[6] = name.start as u64;
     out[7] = name.len as u64;
-    15
+    classes::ANNOTATION_REFERENCE
 }
 
 pub fn export_symbol(x: ExportSymbol, out: &mut [u64; 24]) -> u64
-    ensures { λ r. ⌜ Stored (D.Export x) r (now (out .entry)) (now (out .exit)) ⌝ }
+    ensures class { λ r. ⌜ r ≡ classNumber Class.Export ⌝ }
+    ensures fields { λ _. ⌜ now (out .exit) ≡ sets (now (out .entry)) 2 (exportWords x) ⌝ }
 {
     let flags = x.flags;
     let name = x.name;
@@ -127,12 +139,13 @@ pub fn export_symbol(x: ExportSymbol, out: &mut [u64; 24]) -> u64
     out[3] = super::field::export_bits(flags);
     out[4] = name.start as u64;
     out[5] = name.len as u64;
-    17
+    classes::EXPORT
 }
 
 pub fn build_info(x: BuildInfoSymbol, out: &mut [u64; 24]) -> u64
-    ensures { λ r. ⌜ Stored (D.BuildInfo x) r (now (out .entry)) (now (out .exit)) ⌝ }
+    ensures class { λ r. ⌜ r ≡ classNumber Class.BuildInfo ⌝ }
+    ensures fields { λ _. ⌜ now (out .exit) ≡ sets (now (out .entry)) 2 (buildInfoWords x) ⌝ }
 {
     out[2] = x.id as u64;
-    19
+    classes::BUILD_INFO
 }

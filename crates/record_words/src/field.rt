@@ -2,7 +2,8 @@
 ghost use mathlib.Core.Path.{_≡_};
 ghost use Prim.Native.Nat.{_+_, _*_, _<_, _^_};
 ghost use Rattle.records.specs.Field.{orZero32};
-ghost use Rattle.record_words.specs.Fields.{truth, has16, orZero16, has32, hasPart, startOrZero, lenOrZero, variantNumber, variantValue, trampolineNumber, thunkNumber, thunkValue, targetStart, targetLen};
+ghost use Rattle.words.specs.Word.{truth};
+ghost use Rattle.record_words.specs.Fields.{has16, orZero16, has32, hasPart, startOrZero, lenOrZero, variantNumber, variantValue, trampolineNumber, thunkNumber, thunkValue, targetStart, targetLen};
 ghost use Rattle.record_words.specs.Flags.{publicBits, procedureBits, compileBits, exportBits, localBits, separatedBits};
 use records::OptionPart;
 use records::OptionU16;

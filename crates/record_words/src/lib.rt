@@ -1,21 +1,26 @@
 // A decoded record as words, in places that the caller lends: the number of its class, the bytes consumed, and its fields.
+//
+// `field` has the fields that are no plain numbers; the others have the records, in the rooms and the order of their decoders.
 pub mod code;
 pub mod compiland;
 pub mod data;
 pub mod field;
 
 ghost use mathlib.Core.Path.{_≡_};
+ghost use lib.Seq.{sets};
+ghost use Rattle.constants.specs.Kind.{classNumber};
 ghost use Rattle.words.specs.Written.{written};
-ghost use Rattle.record_words.specs.Record.{recordWords};
-ghost use Rattle.record_words.specs.Stored.{Stored};
+ghost use Rattle.record_words.specs.Record.{classIn, fieldWords, recordWords};
+use constants::classes;
 use records::SymbolData;
 
 // Stores the fields from place 2 on and answers the number of the class.
 fn put_fields(d: SymbolData, out: &mut [u64; 24]) -> u64
-    ensures { λ r. ⌜ Stored d r (now (out .entry)) (now (out .exit)) ⌝ }
+    ensures class { λ r. ⌜ r ≡ classNumber (classIn d) ⌝ }
+    ensures fields { λ _. ⌜ now (out .exit) ≡ sets (now (out .entry)) 2 (fieldWords d) ⌝ }
 {
     match d {
-        SymbolData::ScopeEnd => 1,
+        SymbolData::ScopeEnd => classes::SCOPE_END,
         SymbolData::ObjName(x) => compiland::obj_name(x, out),
         SymbolData::RegisterVariable(x) => data::register_variable(x, out),
         SymbolData::Constant(x) => data::constant(x, out),
@@ -35,8 +40,8 @@ fn put_fields(d: SymbolData, out: &mut [u64; 24]) -> u64
         SymbolData::Local(x) => data::local(x, out),
         SymbolData::BuildInfo(x) => compiland::build_info(x, out),
         SymbolData::InlineSite(x) => code::inline_site(x, out),
-        SymbolData::InlineSiteEnd => 21,
-        SymbolData::ProcedureEnd => 22,
+        SymbolData::InlineSiteEnd => classes::INLINE_SITE_END,
+        SymbolData::ProcedureEnd => classes::PROCEDURE_END,
         SymbolData::Label(x) => code::label(x, out),
         SymbolData::Block(x) => code::block(x, out),
         SymbolData::RegisterRelative(x) => data::register_relative(x, out),

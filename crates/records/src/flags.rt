@@ -3,10 +3,15 @@
 ghost use mathlib.Core.Path.{_≡_};
 ghost use Rattle.records.specs.Flags.{procedureFlags, publicFlags, exportFlags, localFlags, separatedFlags, compileFlags};
 
+// The flags of a `PublicSymbol`: what it is (CV_PUBSYMFLAGS).
 pub struct PublicFlags {
+    // It is code.
     pub code: bool,
+    // It is a function.
     pub function: bool,
+    // It is managed code, native or IL.
     pub managed: bool,
+    // It is managed IL code.
     pub msil: bool,
 }
 
@@ -31,14 +36,23 @@ impl PublicFlags {
     }
 }
 
+// The flags of a `ProcedureSymbol` or a `LabelSymbol`: how it returns and was compiled (CV_PROCFLAGS).
 pub struct ProcedureFlags {
+    // It has a frame pointer: none was omitted.
     pub nofpo: bool,
+    // It returns from an interrupt.
     pub int: bool,
+    // It returns far.
     pub far: bool,
+    // It does not return.
     pub never: bool,
+    // It is never called.
     pub notreached: bool,
+    // It has a calling convention of its own.
     pub cust_call: bool,
+    // It is marked `noinline`.
     pub noinline: bool,
+    // There is debug information for its optimized code.
     pub optdbginfo: bool,
 }
 
@@ -75,16 +89,27 @@ impl ProcedureFlags {
     }
 }
 
+// The flags of a `LocalSymbol`: what the variable is (CV_LVARFLAGS).
 pub struct LocalVariableFlags {
+    // It is a parameter.
     pub isparam: bool,
+    // Its address is taken.
     pub addrtaken: bool,
+    // The compiler made it.
     pub compgenx: bool,
+    // It is split into parts that the compiler treats as variables of their own.
     pub isaggregate: bool,
+    // It has several lifetimes at the same time.
     pub isaliased: bool,
+    // It is one of several lifetimes of a variable.
     pub isalias: bool,
+    // It is what the function returns.
     pub isretvalue: bool,
+    // It has no lifetime: it was optimized out.
     pub isoptimizedout: bool,
+    // It is a global variable in a register.
     pub isenreg_glob: bool,
+    // It is a static variable in a register.
     pub isenreg_stat: bool,
 }
 
@@ -127,12 +152,19 @@ impl LocalVariableFlags {
     }
 }
 
+// The flags of an `ExportSymbol`: what is exported, and how.
 pub struct ExportSymbolFlags {
+    // It is a constant.
     pub constant: bool,
+    // It is data, such as a static variable.
     pub data: bool,
+    // It is private.
     pub private: bool,
+    // It has no name.
     pub no_name: bool,
+    // Its ordinal was given explicitly.
     pub ordinal: bool,
+    // It is a forwarder, to a symbol of another library.
     pub forwarder: bool,
 }
 
@@ -163,8 +195,11 @@ impl ExportSymbolFlags {
     }
 }
 
+// The flags of a `SeparatedCodeSymbol`: what the code is (CV_SEPCODEFLAGS).
 pub struct SeparatedCodeFlags {
+    // It is a lexical scope too.
     pub islexicalscope: bool,
+    // It returns to the code of its parent.
     pub returnstoparent: bool,
 }
 
@@ -183,18 +218,31 @@ impl SeparatedCodeFlags {
     }
 }
 
+// The flags of a `CompileFlagsSymbol`: what the module was compiled with.
 pub struct CompileFlags {
+    // For edit and continue.
     pub edit_and_continue: bool,
+    // Without debug information.
     pub no_debug_info: bool,
+    // With code generation at link time, /LTCG.
     pub link_time_codegen: bool,
+    // With /bzalign: data is not aligned.
     pub no_data_align: bool,
+    // It has managed code or data.
     pub managed: bool,
+    // With security checks, /GS.
     pub security_checks: bool,
+    // For patches of running code, /hotpatch.
     pub hot_patch: bool,
+    // By CvtCIL.
     pub cvtcil: bool,
+    // It is a .NET module of MSIL.
     pub msil_module: bool,
+    // With /sdl. S_COMPILE3 alone has this flag and the next two.
     pub sdl: bool,
+    // Guided by a profile, /ltcg:pgo.
     pub pgo: bool,
+    // It is a .exp module.
     pub exp_module: bool,
 }
 

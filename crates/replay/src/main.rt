@@ -1,14 +1,12 @@
 // Replays a list of cases with the oracle's answers, read from standard input, and says how many of our answers differ.
 //
 // The list is made by the program under oracle/; docs/COMPARISON.md has its format.
+mod answer;
+mod list;
 mod parts;
 
 ghost use mathlib.Core.Path.{_≡_};
 ghost use lib.ListN.{length};
-
-mod answer;
-mod list;
-
 use list::Tally;
 
 // A block of the list. The `ensures` gives only the length, which lending it as a slice needs.

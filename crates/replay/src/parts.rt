@@ -1,5 +1,5 @@
-// The part of the test program replay that calls no exported function: our answers about numbers, names, numeric values, kinds and codes,
-// and the words of an answer, as the oracle writes them: the number of the refusal, or 0, and what was written to the lent words.
+// Our answers about numbers, names, numeric values, kinds and codes, by functions that C does not call; and the words of an answer, as
+// the oracle writes them: the number of the refusal, or 0, and what was written to the lent words.
 use common::Refusal;
 use common::signed::ParsedI16;
 use common::signed::ParsedI32;
@@ -10,7 +10,6 @@ use common::unsigned::ParsedU32;
 use common::unsigned::ParsedU64;
 use names::ParsedPart;
 use variant::ParsedVariant;
-use variant::Variant;
 
 // What lent words hold before a call: one that is not the answer's must hold it afterwards.
 pub const FREE: u64 = 0xfeed_fedd_feed_fedd;
@@ -94,22 +93,14 @@ fn name(answered: ParsedPart) -> Words {
 }
 
 // The variant's place in the Rust's enum, its value, and the position after it.
-fn tagged(tag: u64, x: u64, next: usize) -> Words {
-    let out = [tag, x, next as u64];
-    words_of(0, &out)
-}
-
 fn numeric(s: &[u8], at: usize) -> Words {
     match variant::parse_variant(s, at) {
-        ParsedVariant::Value(v, next) => match v {
-            Variant::U8(x) => tagged(0, x as u64, next),
-            Variant::U16(x) => tagged(1, x as u64, next),
-            Variant::U32(x) => tagged(2, x as u64, next),
-            Variant::U64(x) => tagged(3, x, next),
-            Variant::I16(x) => tagged(5, words::i16_word(x), next),
-            Variant::I32(x) => tagged(6, words::i32_word(x), next),
-            Variant::I64(x) => tagged(7, words::i64_word(x), next),
-        },
+        ParsedVariant::Value(v, next) => {
+            let number = record_words::field::variant_number(v);
+            let value = record_words::field::variant_value(v);
+            let out = [number, value, next as u64];
+            words_of(0, &out)
+        }
         ParsedVariant::Refused(e) => refused(e),
     }
 }

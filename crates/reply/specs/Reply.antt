@@ -22,11 +22,11 @@ abbrev pub answers : List ℕ → Reply
 answers words = record { number = 0; words = words }
 
 -- A refusal carries its number, its position (0 where none is said), for 3 the kind, for 4 the prefix, and no more.
-abbrev pub refuses : Refusal → Reply
-refuses e = record { number = e .number; words = e .position ∷ e .detail ∷ [] }
+abbrev pub refusalReply : Refusal → Reply
+refusalReply e = record { number = e .number; words = e .position ∷ e .detail ∷ [] }
 
 -- "A chain holds up to 64 positions and a count; unused places are 0": the number of records read or of links climbed, the count, and
 -- the 64 places
 abbrev pub chainReply : Outcome → ℕ → Chain → Reply
 chainReply Answer count chain = answers (count ∷ chain .depth ∷ chain .at)
-chainReply (Refused e) count chain = refuses e
+chainReply (Refused e) count chain = refusalReply e

@@ -1,5 +1,4 @@
-// What each operation replies to a caller that lends words: the definitions for all of them, and the functions for the answers that are
-// no chain and no typed record.
+// The replies of step, name, register entry and check. A part of a record is told by where it starts and how long it is.
 ghost use Rattle.reply.specs.Reply.{Replied};
 ghost use Rattle.registers.specs.EntryAnswer.{entryOf};
 ghost use Rattle.reply.specs.Replies.{stepReply, nameReply, entryReply, checkReply};
@@ -9,6 +8,7 @@ use records::OptionPart;
 use registers::entry::ParsedEntry;
 use symbol::name::Named;
 
+// End: 0, position. A record: 1, index, its bytes, next position.
 pub fn reply_step(answer: Next, out: &mut [u64; 5]) -> u32
     ensures { λ r. ⌜ Replied (stepReply answer) r (now (out .entry)) (now (out .exit)) ⌝ }
 {
@@ -30,6 +30,7 @@ pub fn reply_step(answer: Next, out: &mut [u64; 5]) -> u32
     }
 }
 
+// 1 and the name; 0, 0, 0 where there is none.
 pub fn reply_name(answer: Named, out: &mut [u64; 3]) -> u32
     ensures { λ r. ⌜ Replied (nameReply answer) r (now (out .entry)) (now (out .exit)) ⌝ }
 {
@@ -48,6 +49,7 @@ pub fn reply_name(answer: Named, out: &mut [u64; 3]) -> u32
     }
 }
 
+// The register and its name.
 pub fn reply_entry(answer: ParsedEntry, out: &mut [u64; 3]) -> u32
     ensures { λ r. ⌜ Replied (entryReply (entryOf answer)) r (now (out .entry)) (now (out .exit)) ⌝ }
 {
@@ -66,6 +68,7 @@ pub fn reply_entry(answer: ParsedEntry, out: &mut [u64; 3]) -> u32
     }
 }
 
+// Records read and their bytes, records passed over and theirs, openers, deepest nesting.
 pub fn reply_check(answer: Checked, out: &mut [u64; 6]) -> u32
     ensures { λ r. ⌜ Replied (checkReply answer) r (now (out .entry)) (now (out .exit)) ⌝ }
 {

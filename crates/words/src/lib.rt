@@ -1,31 +1,31 @@
-// Values as 64-bit words, the form in which answers leave the library.
+// 64-bit words, the form in which answers leave the library: values as words, and words stored where the caller lends room (`put`).
 pub mod put;
 
 ghost use mathlib.Core.Path.{_≡_};
-ghost use mathlib.Core.Bool.{cond};
-ghost use Rattle.common.specs.Bytes.{signed};
+ghost use Rattle.words.specs.Word.{truth, signedWord};
 
-// The word whose two's complement reading is x; narrower numbers below likewise.
-pub fn i64_word(x: i64) -> u64
-    ensures { λ r. ⌜ signed 64 r ≡ x ⌝ }
+// 1 for true, 0 for false.
+pub fn truth(b: bool) -> u64
+    ensures { λ r. ⌜ r ≡ truth b ⌝ }
 {
-    if x < 0 { !((!x) as u64) } else { x as u64 }
+    if b { 1 } else { 0 }
 }
 
-pub fn i32_word(x: i32) -> u64
-    ensures { λ r. ⌜ signed 64 r ≡ x ⌝ }
-{
-    i64_word(x as i64)
-}
-
+// A signed number in two's complement, whatever its width.
 pub fn i16_word(x: i16) -> u64
-    ensures { λ r. ⌜ signed 64 r ≡ x ⌝ }
+    ensures { λ r. ⌜ r ≡ signedWord x ⌝ }
 {
     i32_word(x as i32)
 }
 
-pub fn truth(b: bool) -> u64
-    ensures { λ r. ⌜ r ≡ cond b 1 0 ⌝ }
+pub fn i32_word(x: i32) -> u64
+    ensures { λ r. ⌜ r ≡ signedWord x ⌝ }
 {
-    if b { 1 } else { 0 }
+    i64_word(x as i64)
+}
+
+pub fn i64_word(x: i64) -> u64
+    ensures { λ r. ⌜ r ≡ signedWord x ⌝ }
+{
+    if x < 0 { !((!x) as u64) } else { x as u64 }
 }

@@ -2,7 +2,7 @@
 -- Assumes nothing.
 use borrow.Author.Needs.{needs}
 use mathlib.Core.Path.{_∙_, ap}
-use Rattle.record_words.specs.Fields.{truth}
+use Rattle.words.specs.Word.{truth}
 use Rattle.mitrelilac.proofs.Replies.{kind-replied}
 use Rattle.mitrelilac.proofs.mitrelilac_kind.Statement.{statement}
 use Rattle.mitrelilac.proofs.mitrelilac_kind.Tie as tie

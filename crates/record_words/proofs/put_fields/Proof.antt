@@ -6,7 +6,7 @@ use Rattle.record_words.proofs.put_fields.Statement.{statement}
 use Rattle.record_words.proofs.put_fields.Tie as tie
 
 returns : tie.Need-returns
-returns c = rw (c .enum-told .given .1) (record { class = refl; stores = refl })
+returns c = rw (c .enum-told .given .1) (refl, refl)
 
 returns-2 : tie.Need-returns-2
 returns-2 c = rw (c .before .before .before .d .given .1) (c .obj-name .ensures)
@@ -66,10 +66,10 @@ returns-20 : tie.Need-returns-20
 returns-20 c = rw (c .before .before .before .d19 .given .1) (c .inline-site .ensures)
 
 returns-21 : tie.Need-returns-21
-returns-21 c = rw (c .enum-told2 .given .1) (record { class = refl; stores = refl })
+returns-21 c = rw (c .enum-told2 .given .1) (refl, refl)
 
 returns-22 : tie.Need-returns-22
-returns-22 c = rw (c .enum-told3 .given .1) (record { class = refl; stores = refl })
+returns-22 c = rw (c .enum-told3 .given .1) (refl, refl)
 
 returns-23 : tie.Need-returns-23
 returns-23 c = rw (c .before .before .before .d20 .given .1) (c .label .ensures)

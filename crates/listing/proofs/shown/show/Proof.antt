@@ -1,23 +1,20 @@
--- `listing::shown::show` meets its contract. The loop's invariant: the bytes passed stand in the piece as they are shown. The measure is the
--- number of bytes that are left.
+-- `listing::shown::show` meets its contract. The loop's invariant: the bytes passed stand in the piece as they are shown, and those behind
+-- them as they were. The measure is the number of bytes that are left.
 -- Assumes nothing.
 use borrow.Author.Needs.{needs}
 use mathlib.Core.Path.{_≡_, refl, sym}
 use mathlib.Core.Logic.{⊎-elim}
-use mathlib.Core.List.{map}
 use Prim.Native.Nat.{_≤_, _-_, min}
 use native.Mathlib.Omega.{arith}
-use lib.ListN.{length, take, drop}
+use lib.ListN.{length}
 use lib.Seq.{length-take-le}
-use Rattle.listing.specs.Shown.{shownByte}
-use Rattle.listing.proofs.Pieces.{one-more}
+use Rattle.listing.proofs.Pieces.{showing, one-more}
 use Rattle.listing.proofs.shown.show.Statement.{statement}
 use Rattle.listing.proofs.shown.show.Tie as tie
 
 abbrev Inv-loop : tie.InvT-loop
 Inv-loop name from piece₀ n i₀ piece i =
-    (length piece ≡ length piece₀) × (i ≤ n) × (n ≡ min (length piece) (length name - from))
-    × (take i piece ≡ map shownByte (take i (drop from name)))
+    (length piece ≡ length piece₀) × (i ≤ n) × (n ≡ min (length piece) (length name - from)) × (piece ≡ showing name from piece₀ i)
 
 abbrev μ-loop : tie.MeasureT-loop
 μ-loop name from piece₀ n i₀ piece i = n - i
@@ -29,7 +26,7 @@ loop-again : tie.Need-loop-again Inv-loop μ-loop
 loop-again c =
     let l = c .before .before .before .loop in
     let a = c .before .before .before .before .before .before .before .args in
-    let shown = one-more (a .name .now) (l .piece) (a .from) (l .i) _ (omega arith) (omega arith) (c .shown .ensures) (l .inv .3) in
+    let shown = one-more (a .name .now) (a .piece .now) (l .piece) (a .from) (l .i) _ (omega arith) (omega arith) (c .shown .ensures) (l .inv .3) in
     (search needs, search needs, search needs, shown)
 
 same-length : tie.Need-same-length Inv-loop μ-loop

@@ -6,16 +6,14 @@ use Rattle.record_words.proofs.code.inline_site.Statement.{statement}
 use Rattle.record_words.proofs.code.inline_site.Tie as tie
 
 returns : tie.Need-returns
-returns c =
-    record {
-      class = refl;
-      stores =
-          rw (
-            c .before .before .before .before .or-zero32 .ensures,
-            c .before .has32 .ensures,
-            c .or-zero322 .ensures,
-          );
-    }
+returns c = (
+  refl,
+  rw (
+    c .before .before .before .before .or-zero32 .ensures,
+    c .before .has32 .ensures,
+    c .or-zero322 .ensures,
+  ),
+)
 
 pub inline-site-spec : {M : Type 1} → statement M
 inline-site-spec =

@@ -6,7 +6,7 @@ use Rattle.record_words.proofs.code.label.Statement.{statement}
 use Rattle.record_words.proofs.code.label.Tie as tie
 
 returns : tie.Need-returns
-returns c = record { class = refl; stores = rw (c .procedure-bits .ensures) }
+returns c = (refl, rw (c .procedure-bits .ensures))
 
 pub label-spec : {M : Type 1} → statement M
 label-spec =

@@ -6,18 +6,16 @@ use Rattle.record_words.proofs.code.procedure.Statement.{statement}
 use Rattle.record_words.proofs.code.procedure.Tie as tie
 
 returns : tie.Need-returns
-returns c =
-    record {
-      class = refl;
-      stores =
-          rw (
-            c .before .before .before .before .before .before .before .before .before .before .before .truth .ensures,
-            c .before .before .before .before .before .before .before .before .before .before .truth2 .ensures,
-            c .before .before .before .before .before .before .before .before .before .or-zero32 .ensures,
-            c .before .before .before .before .before .before .before .or-zero322 .ensures,
-            c .procedure-bits .ensures,
-          );
-    }
+returns c = (
+  refl,
+  rw (
+    c .before .before .before .before .before .before .before .before .before .before .before .truth .ensures,
+    c .before .before .before .before .before .before .before .before .before .before .truth2 .ensures,
+    c .before .before .before .before .before .before .before .before .before .or-zero32 .ensures,
+    c .before .before .before .before .before .before .before .or-zero322 .ensures,
+    c .procedure-bits .ensures,
+  ),
+)
 
 pub procedure-spec : {M : Type 1} → statement M
 procedure-spec =

@@ -6,7 +6,7 @@ use Rattle.record_words.proofs.code.separated_code.Statement.{statement
 use Rattle.record_words.proofs.code.separated_code.Tie as tie
 
 returns : tie.Need-returns
-returns c = record { class = refl; stores = rw (c .before .before .before .before .separated-bits .ensures) }
+returns c = (refl, rw (c .before .before .before .before .separated-bits .ensures))
 
 pub separated-code-spec : {M : Type 1} → statement M
 separated-code-spec =

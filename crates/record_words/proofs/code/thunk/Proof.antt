@@ -6,19 +6,17 @@ use Rattle.record_words.proofs.code.thunk.Statement.{statement}
 use Rattle.record_words.proofs.code.thunk.Tie as tie
 
 returns : tie.Need-returns
-returns c =
-    record {
-      class = refl;
-      stores =
-          rw (
-            c .before .before .before .before .before .before .before .before .before .or-zero32 .ensures,
-            c .before .before .before .before .before .before .before .or-zero322 .ensures,
-            c .before .before .before .thunk-number .ensures,
-            c .before .before .thunk-value .ensures,
-            c .before .target-start .ensures,
-            c .target-len .ensures,
-          );
-    }
+returns c = (
+  refl,
+  rw (
+    c .before .before .before .before .before .before .before .before .before .or-zero32 .ensures,
+    c .before .before .before .before .before .before .before .or-zero322 .ensures,
+    c .before .before .before .thunk-number .ensures,
+    c .before .before .thunk-value .ensures,
+    c .before .target-start .ensures,
+    c .target-len .ensures,
+  ),
+)
 
 pub thunk-spec : {M : Type 1} → statement M
 thunk-spec =

@@ -6,7 +6,7 @@ use Rattle.record_words.proofs.code.trampoline.Statement.{statement}
 use Rattle.record_words.proofs.code.trampoline.Tie as tie
 
 returns : tie.Need-returns
-returns c = record { class = refl; stores = rw (c .before .before .before .before .before .trampoline-number .ensures) }
+returns c = (refl, rw (c .before .before .before .before .before .trampoline-number .ensures))
 
 pub trampoline-spec : {M : Type 1} → statement M
 trampoline-spec =

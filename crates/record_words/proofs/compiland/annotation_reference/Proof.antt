@@ -6,7 +6,7 @@ use Rattle.record_words.proofs.compiland.annotation_reference.Statement
 use Rattle.record_words.proofs.compiland.annotation_reference.Tie as tie
 
 returns : tie.Need-returns
-returns c = record { class = refl; stores = rw (c .before .has16 .ensures, c .or-zero16 .ensures) }
+returns c = (refl, rw (c .before .has16 .ensures, c .or-zero16 .ensures))
 
 pub annotation-reference-spec : {M : Type 1} → statement M
 annotation-reference-spec =

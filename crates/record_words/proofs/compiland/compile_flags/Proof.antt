@@ -6,18 +6,16 @@ use Rattle.record_words.proofs.compiland.compile_flags.Statement.{state
 use Rattle.record_words.proofs.compiland.compile_flags.Tie as tie
 
 returns : tie.Need-returns
-returns c =
-    record {
-      class = refl;
-      stores =
-          rw (
-            c .before .before .before .before .before .before .before .before .before .before .before .compile-bits .ensures,
-            c .before .before .before .before .before .before .has16 .ensures,
-            c .before .before .before .before .before .or-zero16 .ensures,
-            c .before .has162 .ensures,
-            c .or-zero162 .ensures,
-          );
-    }
+returns c = (
+  refl,
+  rw (
+    c .before .before .before .before .before .before .before .before .before .before .before .compile-bits .ensures,
+    c .before .before .before .before .before .before .has16 .ensures,
+    c .before .before .before .before .before .or-zero16 .ensures,
+    c .before .has162 .ensures,
+    c .or-zero162 .ensures,
+  ),
+)
 
 pub compile-flags-spec : {M : Type 1} → statement M
 compile-flags-spec =

@@ -6,18 +6,16 @@ use Rattle.record_words.proofs.compiland.data_reference.Statement.{stat
 use Rattle.record_words.proofs.compiland.data_reference.Tie as tie
 
 returns : tie.Need-returns
-returns c =
-    record {
-      class = refl;
-      stores =
-          rw (
-            c .before .before .before .before .has16 .ensures,
-            c .before .before .before .or-zero16 .ensures,
-            c .before .before .has-part .ensures,
-            c .before .start-or-zero .ensures,
-            c .len-or-zero .ensures,
-          );
-    }
+returns c = (
+  refl,
+  rw (
+    c .before .before .before .before .has16 .ensures,
+    c .before .before .before .or-zero16 .ensures,
+    c .before .before .has-part .ensures,
+    c .before .start-or-zero .ensures,
+    c .len-or-zero .ensures,
+  ),
+)
 
 pub data-reference-spec : {M : Type 1} → statement M
 data-reference-spec =

@@ -6,7 +6,7 @@ use Rattle.record_words.proofs.compiland.export_symbol.Statement.{state
 use Rattle.record_words.proofs.compiland.export_symbol.Tie as tie
 
 returns : tie.Need-returns
-returns c = record { class = refl; stores = rw (c .export-bits .ensures) }
+returns c = (refl, rw (c .export-bits .ensures))
 
 pub export-symbol-spec : {M : Type 1} → statement M
 export-symbol-spec =

@@ -6,19 +6,17 @@ use Rattle.record_words.proofs.compiland.procedure_reference.Statement.
 use Rattle.record_words.proofs.compiland.procedure_reference.Tie as tie
 
 returns : tie.Need-returns
-returns c =
-    record {
-      class = refl;
-      stores =
-          rw (
-            c .before .before .before .before .before .before .before .truth .ensures,
-            c .before .before .before .before .has16 .ensures,
-            c .before .before .before .or-zero16 .ensures,
-            c .before .before .has-part .ensures,
-            c .before .start-or-zero .ensures,
-            c .len-or-zero .ensures,
-          );
-    }
+returns c = (
+  refl,
+  rw (
+    c .before .before .before .before .before .before .before .truth .ensures,
+    c .before .before .before .before .has16 .ensures,
+    c .before .before .before .or-zero16 .ensures,
+    c .before .before .has-part .ensures,
+    c .before .start-or-zero .ensures,
+    c .len-or-zero .ensures,
+  ),
+)
 
 pub procedure-reference-spec : {M : Type 1} → statement M
 procedure-reference-spec =

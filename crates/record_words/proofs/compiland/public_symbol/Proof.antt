@@ -6,7 +6,7 @@ use Rattle.record_words.proofs.compiland.public_symbol.Statement.{state
 use Rattle.record_words.proofs.compiland.public_symbol.Tie as tie
 
 returns : tie.Need-returns
-returns c = record { class = refl; stores = rw (c .before .before .public-bits .ensures) }
+returns c = (refl, rw (c .before .before .public-bits .ensures))
 
 pub public-symbol-spec : {M : Type 1} → statement M
 public-symbol-spec =

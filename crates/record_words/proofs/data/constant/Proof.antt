@@ -6,16 +6,14 @@ use Rattle.record_words.proofs.data.constant.Statement.{statement}
 use Rattle.record_words.proofs.data.constant.Tie as tie
 
 returns : tie.Need-returns
-returns c =
-    record {
-      class = refl;
-      stores =
-          rw (
-            c .before .before .before .truth .ensures,
-            c .before .variant-number .ensures,
-            c .variant-value .ensures,
-          );
-    }
+returns c = (
+  refl,
+  rw (
+    c .before .before .before .truth .ensures,
+    c .before .variant-number .ensures,
+    c .variant-value .ensures,
+  ),
+)
 
 pub constant-spec : {M : Type 1} → statement M
 constant-spec =

@@ -6,15 +6,13 @@ use Rattle.record_words.proofs.data.data_item.Statement.{statement}
 use Rattle.record_words.proofs.data.data_item.Tie as tie
 
 returns : tie.Need-returns
-returns c =
-    record {
-      class = refl;
-      stores =
-          rw (
-            c .before .before .before .before .truth .ensures,
-            c .before .before .before .truth2 .ensures,
-          );
-    }
+returns c = (
+  refl,
+  rw (
+    c .before .before .before .before .truth .ensures,
+    c .before .before .before .truth2 .ensures,
+  ),
+)
 
 pub data-item-spec : {M : Type 1} → statement M
 data-item-spec =

@@ -6,7 +6,7 @@ use Rattle.record_words.proofs.data.local.Statement.{statement}
 use Rattle.record_words.proofs.data.local.Tie as tie
 
 returns : tie.Need-returns
-returns c = record { class = refl; stores = rw (c .local-bits .ensures) }
+returns c = (refl, rw (c .local-bits .ensures))
 
 pub local-spec : {M : Type 1} → statement M
 local-spec =

@@ -1,23 +1,14 @@
 -- `record_words::data::register_relative` meets its contract.
 -- Assumes nothing.
 use borrow.Author.Needs.{needs}
-use mathlib.Core.Path.{refl, _∙_}
+use mathlib.Core.Path.{refl}
 use mir.Syntax.{w32}
 use mir.Facts.{toZ-ofZ}
-use Rattle.record_words.proofs.Signed.{read-back}
 use Rattle.record_words.proofs.data.register_relative.Statement.{statement}
 use Rattle.record_words.proofs.data.register_relative.Tie as tie
 
 returns : tie.Need-returns
-returns c =
-    record {
-      class = refl;
-      stores =
-          rw
-          (
-          read-back _ _ (search needs) (c .before .before .i32-word .ensures ∙ toZ-ofZ {w = w32} {z = c .before .before .before .before .before .args .x .offset} (search needs))
-          );
-    }
+returns c = (refl, rw (c .before .before .i32-word .ensures, toZ-ofZ {w = w32} {z = c .before .before .before .before .before .args .x .offset} (search needs)))
 
 pub register-relative-spec : {M : Type 1} → statement M
 register-relative-spec =

@@ -6,7 +6,7 @@ use Rattle.record_words.proofs.data.thread_storage.Statement.{statement
 use Rattle.record_words.proofs.data.thread_storage.Tie as tie
 
 returns : tie.Need-returns
-returns c = record { class = refl; stores = rw (c .before .before .before .truth .ensures) }
+returns c = (refl, rw (c .before .before .before .truth .ensures))
 
 pub thread-storage-spec : {M : Type 1} → statement M
 thread-storage-spec =

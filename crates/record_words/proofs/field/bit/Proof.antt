@@ -5,7 +5,7 @@ use native.Mathlib.Omega.{arith}
 use mathlib.Core.Path.{ap}
 use mathlib.Core.Bool.{Bool, true, false}
 use Prim.Native.Nat.{ℕ, _+_, _*_, _≤_}
-use Rattle.record_words.specs.Fields.{truth}
+use Rattle.words.specs.Word.{truth}
 use Rattle.record_words.proofs.field.bit.Statement.{statement}
 use Rattle.record_words.proofs.field.bit.Tie as tie
 
