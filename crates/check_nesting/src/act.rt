@@ -4,6 +4,7 @@ ghost use Rattle.constants.specs.declared.Role.the-variants.{Opens};
 ghost use Rattle.constants.specs.Raw.{nestingRoleOf};
 ghost use Rattle.links.specs.Links.{linksOf};
 ghost use Rattle.check_nesting.specs.Act.{topAt, actOf, openOf};
+use common::Refusal;
 use constants::Role;
 use links::Links;
 
@@ -24,10 +25,10 @@ pub fn act_at(rec: &[u8], index: usize, opens: &[u32; 64], ends: &[u32; 64], dep
         Role::Opens => return open_at(rec, index, depth, innermost(opens, depth)),
         Role::Closes => {
             if depth == 0 {
-                return Act::Refused(10);
+                return Act::Refused(Refusal::NOTHING_OPEN);
             }
             if innermost(ends, depth) as usize != index {
-                return Act::Refused(11);
+                return Act::Refused(Refusal::WRONG_END);
             }
             return Act::Pop;
         }
@@ -40,16 +41,16 @@ fn open_at(rec: &[u8], index: usize, depth: usize, inner: u32) -> Act
     ensures { λ r. ⌜ r ≡ openOf (linksOf (now (rec .entry))) index depth inner ⌝ }
 {
     match links::links_of(rec) {
-        Links::Unread => return Act::Refused(6),
+        Links::Unread => return Act::Refused(Refusal::UNREADABLE_OPENER),
         Links::Read { parent, end } => {
             if index == 0 {
-                return Act::Refused(7);
+                return Act::Refused(Refusal::OPENER_AT_0);
             }
             if parent != inner {
-                return Act::Refused(8);
+                return Act::Refused(Refusal::WRONG_PARENT);
             }
             if 64 <= depth {
-                return Act::Refused(9);
+                return Act::Refused(Refusal::TOO_DEEP);
             }
             return Act::Push(end);
         }

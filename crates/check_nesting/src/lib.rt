@@ -89,7 +89,7 @@ fn at_end(n: Counts, c: Scan, depth: usize, inner: u32) -> Checked
             deepest: n.deepest,
         });
     }
-    refused(12, inner as usize)
+    refused(Refusal::LEFT_OPEN, inner as usize)
 }
 
 fn refused(number: u8, position: usize) -> Checked

@@ -64,13 +64,13 @@ fn climb_from(s: &[u8], i: usize, first: usize) -> Ascent
         }
         let depth = chain.depth;
         if 64 <= depth {
-            return stopped(9);
+            return stopped(Refusal::TOO_DEEP);
         }
         if index <= parent {
-            return stopped(13);
+            return stopped(Refusal::UNUSABLE_LINK);
         }
         match opener::opener_at(s, parent) {
-            Opener::Refused(_) => return stopped(13),
+            Opener::Refused(_) => return stopped(Refusal::UNUSABLE_LINK),
             Opener::Parent(next) => {
                 chain.at[depth] = parent as u32;
                 chain.depth = depth + 1;

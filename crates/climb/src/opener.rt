@@ -31,7 +31,7 @@ fn opener_in(rec: &[u8]) -> Opener
     ensures { λ r. ⌜ r ≡ openerBy (linksOf (now (rec .entry))) ⌝ }
 {
     match links::links_of(rec) {
-        Links::Unread => return no_opener(13),
+        Links::Unread => return no_opener(Refusal::UNUSABLE_LINK),
         Links::Read { parent, end: _ } => {
             let parent = parent as usize;
             return Opener::Parent(parent);
@@ -43,7 +43,7 @@ pub fn opener_at(s: &[u8], at: usize) -> Opener
     ensures { λ r. ⌜ r ≡ openerOf (now (s .entry)) at ⌝ }
 {
     match iter::step(s, at) {
-        Next::End(_) => return no_opener(14),
+        Next::End(_) => return no_opener(Refusal::NOTHING_THERE),
         Next::Refused(e) => return Opener::Refused(e),
         Next::Record {
             index,
@@ -52,12 +52,12 @@ pub fn opener_at(s: &[u8], at: usize) -> Opener
             next,
         } => {
             if index != at {
-                return no_opener(14);
+                return no_opener(Refusal::NOTHING_THERE);
             }
             match constants::kind::nesting_role(&s[from..next]) {
                 Role::Opens => return opener_in(&s[from..next]),
-                Role::Closes => return no_opener(14),
-                Role::Neither => return no_opener(14),
+                Role::Closes => return no_opener(Refusal::NOTHING_THERE),
+                Role::Neither => return no_opener(Refusal::NOTHING_THERE),
             }
         }
     }

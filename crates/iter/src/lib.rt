@@ -3,7 +3,6 @@ ghost use mathlib.Core.Path.{_≡_};
 ghost use Prim.Native.Nat.{suc, _≤_};
 ghost use lib.ListN.{length};
 ghost use Rattle.iter.specs.Step.{frameAt, scanFrom, scanOf, stepOf};
-ghost use Rattle.common.specs.Reader.{refusal};
 use common::Refusal;
 
 // The longest stream that is read.
@@ -16,16 +15,6 @@ pub enum Frame {
     Whole { kind: u16, len: usize },
 }
 
-fn refused(number: u8, position: usize) -> Refusal
-    ensures { λ r. ⌜ r ≡ refusal number position 0 ⌝ }
-{
-    Refusal {
-        number,
-        position,
-        detail: 0,
-    }
-}
-
 fn frame_at(s: &[u8], at: usize) -> Frame
     ensures { λ r. ⌜ r ≡ frameAt (now (s .entry)) at ⌝ }
 {
@@ -34,15 +23,15 @@ fn frame_at(s: &[u8], at: usize) -> Frame
         return Frame::Nothing;
     }
     if n - at < 2 {
-        return Frame::Refused(refused(1, at));
+        return Frame::Refused(Refusal::at(Refusal::UNEXPECTED_EOF, at));
     }
     let len = common::u16_at(s, at) as usize;
     let body = at + 2;
     if len < 2 {
-        return Frame::Refused(refused(2, body));
+        return Frame::Refused(Refusal::at(Refusal::SYMBOL_TOO_SHORT, body));
     }
     if n - body < len {
-        return Frame::Refused(refused(1, body));
+        return Frame::Refused(Refusal::at(Refusal::UNEXPECTED_EOF, body));
     }
     let kind = common::u16_at(s, body);
     Frame::Whole { kind, len }
@@ -117,7 +106,7 @@ pub fn scan_at(s: &[u8], at: usize) -> Scan
 {
     let n = s.len();
     if MAX_STREAM < n {
-        return scanned(0, 0, Next::Refused(refused(5, 0)));
+        return scanned(0, 0, Next::Refused(Refusal::at(Refusal::TOO_LONG, 0)));
     }
     if at < n {
         scan_within(s, at)

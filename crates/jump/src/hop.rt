@@ -24,17 +24,17 @@ fn hop_open(rec: &[u8], next: usize, i: usize, depth: usize) -> Hop
     ensures { λ r. ⌜ r ≡ openHop (linksOf (now (rec .entry))) next i depth ⌝ }
 {
     match links::links_of(rec) {
-        Links::Unread => return Hop::Stop(13),
+        Links::Unread => return Hop::Stop(Refusal::UNUSABLE_LINK),
         Links::Read { parent: _, end } => {
             let end = end as usize;
             if end < next {
-                return Hop::Stop(13);
+                return Hop::Stop(Refusal::UNUSABLE_LINK);
             }
             if end < i {
                 return Hop::Over(end);
             }
             if 64 <= depth {
-                return Hop::Stop(9);
+                return Hop::Stop(Refusal::TOO_DEEP);
             }
             return Hop::Push;
         }
@@ -49,11 +49,11 @@ pub fn hop_at(rec: &[u8], index: usize, next: usize, i: usize, depth: usize) -> 
         return Hop::Found;
     }
     if i < index {
-        return Hop::Stop(14);
+        return Hop::Stop(Refusal::NOTHING_THERE);
     }
     match constants::kind::nesting_role(rec) {
         Role::Opens => return hop_open(rec, next, i, depth),
-        Role::Closes => return Hop::Stop(13),
+        Role::Closes => return Hop::Stop(Refusal::UNUSABLE_LINK),
         Role::Neither => return Hop::Stay,
     }
 }
@@ -68,7 +68,7 @@ fn astray() -> Land
     ensures { λ r. ⌜ r ≡ missed ⌝ }
 {
     let e = Refusal {
-        number: 13,
+        number: Refusal::UNUSABLE_LINK,
         position: 0,
         detail: 0,
     };

@@ -7,6 +7,7 @@ ghost use mathlib.Core.Path.{_≡_};
 ghost use Rattle.jump.specs.Jump.{jumpOf};
 use chain::Chain;
 use chain::finding::Finding;
+use common::Refusal;
 use hop::Hop;
 use hop::Land;
 use iter::Next;
@@ -20,7 +21,7 @@ pub fn jump(s: &[u8], start: usize, i: usize) -> Finding
     let mut read: usize = 0;
     loop {
         match iter::step(s, at) {
-            Next::End(_) => return chain::finding::stopped(14),
+            Next::End(_) => return chain::finding::stopped(Refusal::NOTHING_THERE),
             Next::Refused(e) => return chain::finding::refused(e),
             Next::Record {
                 index,

@@ -5,6 +5,7 @@ ghost use mathlib.Core.Path.{_≡_};
 ghost use Rattle.walk.specs.Walk.{turnOf, walkOf};
 use chain::Chain;
 use chain::finding::Finding;
+use common::Refusal;
 use constants::Role;
 use iter::Next;
 
@@ -25,18 +26,18 @@ fn turn_at(rec: &[u8], index: usize, i: usize, depth: usize) -> Turn
         return Turn::Found;
     }
     if i < index {
-        return Turn::Stop(14);
+        return Turn::Stop(Refusal::NOTHING_THERE);
     }
     match constants::kind::nesting_role(rec) {
         Role::Opens => {
             if 64 <= depth {
-                return Turn::Stop(9);
+                return Turn::Stop(Refusal::TOO_DEEP);
             }
             return Turn::Push;
         }
         Role::Closes => {
             if depth == 0 {
-                return Turn::Stop(10);
+                return Turn::Stop(Refusal::NOTHING_OPEN);
             }
             return Turn::Pop;
         }
@@ -53,7 +54,7 @@ pub fn walk(s: &[u8], start: usize, i: usize) -> Finding
     let mut read: usize = 0;
     loop {
         match iter::step(s, at) {
-            Next::End(_) => return chain::finding::stopped(14),
+            Next::End(_) => return chain::finding::stopped(Refusal::NOTHING_THERE),
             Next::Refused(e) => return chain::finding::refused(e),
             Next::Record {
                 index,
