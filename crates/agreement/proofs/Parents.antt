@@ -47,7 +47,7 @@ pub up-out : {s : List ℕ} {p : ℕ} (q : ℕ) {o : Open} {st : List Open} → 
 up-out q l (over a z e u) = up-later q (omega arith) u
 
 climb-up : (s : List ℕ) (room k : ℕ) (st : List Open) (links : List ℕ) → length st ≤ room → Up s k st →
-    climbOn room s k (innerIndex st) links ≡ reachedBy (chainOf (reverseAux (indexes st) links))
+    climbOn room s k (innerIndex st) links ≡ reachedBy (reverseAux (indexes st) links)
 climb-up s room k st links l top = climb-top s k 0 links room refl
 climb-up s zero k st links l (over a z e u) = absurd (not-suc-le-zero l)
 climb-up s (suc room) k (o ∷ st) links l (over a z e u) =
@@ -55,7 +55,7 @@ climb-up s (suc room) k (o ∷ st) links l (over a z e u) =
     ∙ climb-up s room (o .index) st (o .index ∷ links) (omega arith) u
 
 pub climb-opener : (s : List ℕ) (i : ℕ) (st : List Open) → openerOf s i ≡ Parent (innerIndex st) → length st ≤ 64 → Up s i st →
-    climbOf s i ≡ reachedBy (chainOf (reverse (indexes st)))
+    climbOf s i ≡ reachedBy (reverse (indexes st))
 unfolding climbOf
 climb-opener s i st e l u = ap (climbBy s i) e ∙ climb-up s 64 i st [] l u
 

@@ -6,14 +6,13 @@ ghost use mathlib.Core.Path.{_≡_};
 ghost use Rattle.agreement.specs.Agreement.{answersOf, Condition3};
 use chain::finding::Finding;
 use check_nesting::Checked;
-use climb::Ascent;
 
 // What the four calls return.
 pub struct Answers {
     pub checked: Checked,
     pub walked: Finding,
     pub jumped: Finding,
-    pub climbed: Ascent,
+    pub climbed: Finding,
 }
 
 // Asks the check of a stream from a start, and the three finders of a position in it.

@@ -1,4 +1,4 @@
-// What the walk finder and the jump finder return. The chain lists the outermost scope first.
+// What a finder returns. Walking and jumping list the outermost scope first, climbing the innermost.
 ghost use mathlib.Core.Path.{_≡_};
 ghost use Rattle.common.specs.Reader.{refusal};
 ghost use Rattle.chain.specs.Finding.{foundBy, refusedBy};
@@ -7,22 +7,29 @@ use common::Refusal;
 
 // Whether a finder answers.
 pub enum Outcome {
+    // It does, with a chain and a count.
     Answer,
+
+    // It refuses, for this reason.
     Refused(Refusal),
 }
 
-// What a finder returns: the chain and the number of records read. At a refusal the chain is empty and the count 0.
+// What a finder returns. At a refusal the chain is empty and the count 0.
 pub struct Finding {
     pub out: Outcome,
+
+    // The indexes of the scopes that enclose the position.
     pub chain: Chain,
-    pub read: usize,
+
+    // The number of records read; of a climb, of links.
+    pub count: usize,
 }
 
-pub fn found(chain: Chain, read: usize) -> Finding
-    ensures { λ r. ⌜ r ≡ foundBy chain read ⌝ }
+pub fn found(chain: Chain, count: usize) -> Finding
+    ensures { λ r. ⌜ r ≡ foundBy chain count ⌝ }
 {
     let out = Outcome::Answer;
-    Finding { out, chain, read }
+    Finding { out, chain, count }
 }
 
 pub fn refused(e: Refusal) -> Finding
@@ -33,7 +40,7 @@ pub fn refused(e: Refusal) -> Finding
     Finding {
         out,
         chain,
-        read: 0,
+        count: 0,
     }
 }
 

@@ -29,7 +29,7 @@ use Rattle.check_nesting.specs.declared.Checked.the-variants.{Good}
 use Rattle.chain.specs.Finding.{foundBy, refusedBy}
 use Rattle.walk.specs.Walk.{turnOf, walkOn, walkFrom, walkOf}
 use Rattle.climb.specs.Opener.{openerOf}
-use Rattle.climb.specs.Climb.{reachedBy, haltedBy, climbOn, climbOf}
+use Rattle.climb.specs.Climb.{reachedBy, climbOn, climbOf}
 use Rattle.jump.specs.Hop.{hopOf, landOf}
 use Rattle.jump.specs.Jump.{yieldedAt, jumpBody, jumpBy, jumpFrom, jumpOf}
 use Rattle.agreement.specs.Agreement.{Begins, OpenerBegins}
@@ -78,8 +78,8 @@ unfolding streamA jumpOf jumpFrom jumpBy jumpBody hopOf landOf yieldedAt refused
 p4-jump = refl
 
 -- P5 climb from 28: 4; one link.
-p5 : climbOf streamA 28 ≡ reachedBy (chainOf (4 ∷ []))
-unfolding streamA climbOf climbOn openerOf haltedBy stepOf scanOf scanFrom frameAt B.le rawKind nestingRoleOf K.nestingRole K.roleOf K.find K.kinds linksOf decode byKind layout R._>>=_ R.uint N.run N.cstring N.symbolName S.block K.classOf
+p5 : climbOf streamA 28 ≡ reachedBy (4 ∷ [])
+unfolding streamA climbOf climbOn openerOf refusedBy stepOf scanOf scanFrom frameAt B.le rawKind nestingRoleOf K.nestingRole K.roleOf K.find K.kinds linksOf decode byKind layout R._>>=_ R.uint N.run N.cstring N.symbolName S.block K.classOf
 p5 = refl
 
 -- Condition 3 speaks of A: it passes (P1), a record begins at 52 (P2) and at 68 (P3), none at 64 (P4), and an opener at 28 (P5).

@@ -15,7 +15,6 @@ use Rattle.iter.specs.declared.Next.the-variants as N
 use Rattle.check_nesting.specs.declared.Checked.{Checked}
 use Rattle.check_nesting.specs.declared.Checked.the-variants as C
 use Rattle.chain.specs.declared.finding.Finding.{Finding}
-use Rattle.climb.specs.declared.Ascent.{Ascent}
 use Rattle.reply.specs.Reply.{Reply, answers, refuses, chainReply}
 
 -- Step: "End, with the position"; "index (position of the length field), the record's bytes (kind first), next position". The bytes are
@@ -52,7 +51,4 @@ checkReply (C.Refused e) = refuses e
 
 -- Walk and jump with the number of records read, climb with that of links
 abbrev pub findingReply : Finding → Reply
-findingReply f = chainReply (f .out) (f .read) (f .chain)
-
-abbrev pub ascentReply : Ascent → Reply
-ascentReply a = chainReply (a .out) (a .links) (a .chain)
+findingReply f = chainReply (f .out) (f .count) (f .chain)

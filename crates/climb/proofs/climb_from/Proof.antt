@@ -19,7 +19,7 @@ loop-holds : tie.Need-loop-holds Inv-loop μ-loop
 loop-holds c = climbing-first _ _ _ _ (c .new .ensures)
 
 returns : tie.Need-returns Inv-loop μ-loop
-returns c = c .reached .ensures ∙ at-top _ _ _ _ _ _ (c .before .before .loop .inv) (c .before .if1 .taken)
+returns c = c .found .ensures ∙ at-top _ _ _ _ _ _ (c .before .before .loop .inv) (c .before .if1 .taken)
 
 returns-2 : tie.Need-returns-2 Inv-loop μ-loop
 returns-2 c = c .stopped .ensures ∙ at-full _ _ _ _ _ _ (c .before .before .before .loop .inv) (c .before .before .if1 .left) (c .before .if2 .taken)
