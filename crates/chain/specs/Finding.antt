@@ -2,7 +2,6 @@
 use Prim.Native.Nat.{ℕ}
 use mathlib.Core.List.{List, [], _∷_}
 use lib.ListN.{length}
-use Rattle.common.specs.Reader.{refusal}
 use Rattle.common.specs.declared.Refusal.{Refusal}
 use Rattle.iter.specs.Reading.{Rec}
 use Rattle.chain.specs.Chain.{chainOf}
@@ -21,12 +20,12 @@ pub record Walk : Type 0 where
 abbrev pub seen : Rec → Walk → Walk
 seen r w = record { out = w .out; stack = w .stack; visited = r ∷ w .visited }
 
--- a walk that ends here with a refusal; one of the finder's own carries no position
-abbrev pub refuses : Refusal → Walk
-refuses e = record { out = Refused e; stack = []; visited = [] }
+-- a walk that ends: at a record, with the stack there, or with a refusal
+abbrev pub foundAt : Rec → List ℕ → Walk
+foundAt r st = record { out = Answer; stack = st; visited = r ∷ [] }
 
-abbrev pub stops : ℕ → Walk
-stops number = refuses (refusal number 0 0)
+abbrev pub refusedWith : Refusal → Walk
+refusedWith e = record { out = Refused e; stack = []; visited = [] }
 
 -- Both finders also return the number of records read; climbing returns its links.
 abbrev pub foundBy : Chain → ℕ → Finding

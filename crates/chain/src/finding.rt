@@ -1,6 +1,5 @@
 // What a finder returns. Walking and jumping list the outermost scope first, climbing the innermost.
 ghost use mathlib.Core.Path.{_≡_};
-ghost use Rattle.common.specs.Reader.{refusal};
 ghost use Rattle.chain.specs.Finding.{foundBy, refusedBy};
 use super::Chain;
 use common::Refusal;
@@ -42,16 +41,4 @@ pub fn refused(e: Refusal) -> Finding
         chain,
         count: 0,
     }
-}
-
-// A refusal that is the finder's own, and not a step's, carries no position.
-pub fn stopped(number: u8) -> Finding
-    ensures { λ r. ⌜ r ≡ refusedBy (refusal number 0 0) ⌝ }
-{
-    let e = Refusal {
-        number,
-        position: 0,
-        detail: 0,
-    };
-    refused(e)
 }

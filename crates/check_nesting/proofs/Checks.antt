@@ -13,19 +13,19 @@ use Rattle.iter.specs.Step.{scanOf}
 use Rattle.iter.specs.Reading.{Rec, Reading, recAt, ended, more, onNext, readOf}
 use Rattle.iter.specs.declared.Scan.{Scan}
 use Rattle.iter.specs.declared.Next.{Next}
-use Rattle.iter.specs.declared.Next.the-variants.{End, Refused, Record}
+use Rattle.iter.specs.declared.Next.the-variants as N
 use Rattle.iter.proofs.Reading.{Stepped, step-fits, read-by, Skips, skips}
 use Rattle.iter.proofs.Records.{bytes-length, skipped-to}
 use Rattle.chain.specs.Chain.{chainOf, topOf}
 use Rattle.chain.specs.declared.Chain.{Chain}
 use Rattle.chain.proofs.Laws.{pushed, popped, stack-depth, push-stack, pop-stack, length-tail, top-stack, top-none}
 use Rattle.check_nesting.specs.declared.act.Act.{Act}
-use Rattle.check_nesting.specs.declared.act.Act.the-variants.{Stay, Push, Pop, Refused as Stop}
+use Rattle.check_nesting.specs.declared.act.Act.the-variants as A
 use Rattle.check_nesting.specs.Act.{actOf}
 use Rattle.check_nesting.proofs.Acts.{Room, room}
 use Rattle.check_nesting.specs.declared.Counts.{Counts}
-use Rattle.check_nesting.specs.declared.Checked.the-variants.{Refused as Refuse}
-use Rattle.check_nesting.specs.Check.{Open, innerIndex, innerEnd, noCounts, countedOf, openedOf, countRec, refuses, onAct, endOf, onLast, checkOn, checkFrom, checkOf}
+use Rattle.check_nesting.specs.declared.Checked.the-variants as C
+use Rattle.check_nesting.specs.Check.{Open, innerIndex, innerEnd, noCounts, countedOf, openedOf, countRec, onAct, endOf, onLast, checkOn, checkFrom, checkOf}
 
 -- one field of each open opener
 module _ (field : Open → ℕ) where
@@ -77,10 +77,10 @@ pub record Found (s : List ℕ) (at : ℕ) (c : Scan) (index from len next : ℕ
   pub exact : at + c .skipped ≡ index
   pub size : length (take len (drop from s)) ≡ len
 
-found-bounds : (s : List ℕ) (at : ℕ) (c : Scan) (index from len next : ℕ) → c ≡ scanOf s at → c .next ≡ Record index from len next → Found s at c index from len next
+found-bounds : (s : List ℕ) (at : ℕ) (c : Scan) (index from len next : ℕ) → c ≡ scanOf s at → c .next ≡ N.Record index from len next → Found s at c index from len next
 found-bounds s at c index from len next e n = subst (λ (x : Scan). Found s at x index from len next) (sym e) (it (ap (λ (x : Scan). x .next) (sym e) ∙ n))
   where
-    it : scanOf s at .next ≡ Record index from len next → Found s at (scanOf s at) index from len next
+    it : scanOf s at .next ≡ N.Record index from len next → Found s at (scanOf s at) index from len next
     it q =
         record {
           stepped = step-fits s at index from len next q;
@@ -129,7 +129,7 @@ pub record Turn (s : List ℕ) (start : ℕ) (opens : Chain) (ends-of : List ℕ
 
 pub record Yields (s : List ℕ) (start : ℕ) (opens : Chain) (ends-of : List ℕ) (n : Counts) (at : ℕ) (c : Scan) (index from len next : ℕ) : Type 0 where
   pub turn : Turn s start opens ends-of n at c
-  pub yields : c .next ≡ Record index from len next
+  pub yields : c .next ≡ N.Record index from len next
 
 module _ {s : List ℕ} {start : ℕ} {opens : Chain} {ends-of : List ℕ} {n : Counts} {at : ℕ} {c : Scan} (t : Turn s start opens ends-of n at c) where
   depth : opens .depth ≡ length (t .inv .stack)
@@ -160,11 +160,11 @@ module _ {s : List ℕ} {start : ℕ} {opens : Chain} {ends-of : List ℕ} {n : 
   unfolding checkFrom checkOn
   last m em er = ap (λ (x : Next). onLast c x (t .inv .stack) n) (sym em) ∙ ap (λ (x : Reading). checkFrom x (t .inv .stack) n) (sym er) ∙ t .inv .same
 
-  pub at-refused : {x : Refusal} → c .next ≡ Refused x → Refuse x ≡ checkOf s start
-  at-refused {x} e = last (Refused x) e (reading (Refused x) e)
+  pub at-refused : {x : Refusal} → c .next ≡ N.Refused x → C.Refused x ≡ checkOf s start
+  at-refused {x} e = last (N.Refused x) e (reading (N.Refused x) e)
 
-  pub at-end : {p : ℕ} → c .next ≡ End p → endOf n (c .passed) (c .skipped) (opens .depth) (topOf opens) ≡ checkOf s start
-  at-end {p} e = rw (inner, depth) (last (End p) e (reading (End p) e))
+  pub at-end : {p : ℕ} → c .next ≡ N.End p → endOf n (c .passed) (c .skipped) (opens .depth) (topOf opens) ≡ checkOf s start
+  at-end {p} e = rw (inner, depth) (last (N.End p) e (reading (N.End p) e))
 
 module _ {s : List ℕ} {start : ℕ} {opens : Chain} {ends-of : List ℕ} {n : Counts} {at : ℕ} {c : Scan} {index from len next : ℕ}
     (y : Yields s start opens ends-of n at c index from len next) where
@@ -184,23 +184,23 @@ module _ {s : List ℕ} {start : ℕ} {opens : Chain} {ends-of : List ℕ} {n : 
   left : (a : Act) → act ≡ a → onAct r stack n a (λ st m. checkFrom (readOf s next) st m) ≡ checkOf s start
   left a ea =
       ap (λ (x : Act). onAct r stack n x (λ st m. checkFrom (readOf s next) st m)) (sym ea ∙ same-act (y .turn) (r .bytes) index)
-      ∙ sym (check-more r (readOf s next) (readOf s at) stack n (reading (y .turn) (Record index from len next) (y .yields)))
+      ∙ sym (check-more r (readOf s next) (readOf s at) stack n (reading (y .turn) (N.Record index from len next) (y .yields)))
       ∙ y .turn .inv .same
 
   roomy : (a : Act) → act ≡ a → Room (opens .depth) a
   roomy a ea = subst (λ (x : Act). Room (opens .depth) x) ea (room (r .bytes) index (opens .depth) _ _)
 
-  pub push-room : {end : ℕ} → act ≡ Push end → opens .depth < 64
-  push-room {end} ea = roomy (Push end) ea
+  pub push-room : {end : ℕ} → act ≡ A.Push end → opens .depth < 64
+  push-room {end} ea = roomy (A.Push end) ea
 
-  pub pop-room : act ≡ Pop → opens .depth ≡ 0 → ⊥
-  pop-room ea = roomy Pop ea
+  pub pop-room : act ≡ A.Pop → opens .depth ≡ 0 → ⊥
+  pop-room ea = roomy A.Pop ea
 
   counts : countRec n r ≡ countedOf n (c .passed) (c .skipped) len
   unfolding countRec
   counts = ap (countedOf n (c .passed) (c .skipped)) (found .size)
 
-  pub go-stay : act ≡ Stay → Checking s start opens ends-of (countedOf n (c .passed) (c .skipped) len) next
+  pub go-stay : act ≡ A.Stay → Checking s start opens ends-of (countedOf n (c .passed) (c .skipped) len) next
   unfolding countedOf
   go-stay ea =
       record {
@@ -208,7 +208,7 @@ module _ {s : List ℕ} {start : ℕ} {opens : Chain} {ends-of : List ℕ} {n : 
         is-opens = y .turn .inv .is-opens;
         is-ends = y .turn .inv .is-ends;
         most = y .turn .inv .most;
-        same = ap (λ (m : Counts). checkFrom (readOf s next) stack m) (sym counts) ∙ left Stay ea;
+        same = ap (λ (m : Counts). checkFrom (readOf s next) stack m) (sym counts) ∙ left A.Stay ea;
         records = omega (arith, y .turn .inv .records, found);
         bytes = omega (arith, y .turn .inv .bytes, found);
         passed = omega (arith, y .turn .inv .passed, scanned (y .turn));
@@ -216,7 +216,7 @@ module _ {s : List ℕ} {start : ℕ} {opens : Chain} {ends-of : List ℕ} {n : 
       }
 
   -- the stack after the stores that a push and a pop make
-  pub go-pop : act ≡ Pop →
+  pub go-pop : act ≡ A.Pop →
       Checking s start (popped opens) (set ends-of (opens .depth - 1) 0) (countedOf n (c .passed) (c .skipped) len) next
   unfolding countedOf
   go-pop ea =
@@ -231,14 +231,14 @@ module _ {s : List ℕ} {start : ℕ} {opens : Chain} {ends-of : List ℕ} {n : 
             pop-stack (ends stack) (y .turn .inv .is-ends) (omega (arith, y .turn .inv .most))
             ∙ ap chainOf (tail-each (λ o. o .end) stack);
         most = omega (arith, y .turn .inv .most, length-tail stack);
-        same = ap (λ (m : Counts). checkFrom (readOf s next) (tail stack) m) (sym counts) ∙ left Pop ea;
+        same = ap (λ (m : Counts). checkFrom (readOf s next) (tail stack) m) (sym counts) ∙ left A.Pop ea;
         records = omega (arith, y .turn .inv .records, found);
         bytes = omega (arith, y .turn .inv .bytes, found);
         passed = omega (arith, y .turn .inv .passed, scanned (y .turn));
         openers = omega (arith, y .turn .inv .openers);
       }
 
-  pub go-push : {end : ℕ} → act ≡ Push end →
+  pub go-push : {end : ℕ} → act ≡ A.Push end →
       Checking s start (pushed opens index) (set ends-of (opens .depth) end) (openedOf (countedOf n (c .passed) (c .skipped) len) (opens .depth)) next
   unfolding countedOf openedOf
   go-push {end} ea =
@@ -254,12 +254,12 @@ module _ {s : List ℕ} {start : ℕ} {opens : Chain} {ends-of : List ℕ} {n : 
         same =
             ap (λ (m : Counts). checkFrom (readOf s next) (record { index = index; end = end } ∷ stack) m)
             (ap (λ (x : ℕ). openedOf (countedOf n (c .passed) (c .skipped) len) x) (depth (y .turn)) ∙ ap (λ (m : Counts). openedOf m (length stack)) (sym counts))
-            ∙ left (Push end) ea;
+            ∙ left (A.Push end) ea;
         records = omega (arith, y .turn .inv .records, found);
         bytes = omega (arith, y .turn .inv .bytes, found);
         passed = omega (arith, y .turn .inv .passed, scanned (y .turn));
         openers = omega (arith, y .turn .inv .openers);
       }
 
-  pub at-stop : {k : ℕ} → act ≡ Stop k → refuses k index ≡ checkOf s start
-  at-stop {k} ea = left (Stop k) ea
+  pub at-refusing : {x : Refusal} → act ≡ A.Refused x → C.Refused x ≡ checkOf s start
+  at-refusing {x} ea = left (A.Refused x) ea

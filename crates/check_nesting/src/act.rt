@@ -8,12 +8,19 @@ use common::Refusal;
 use constants::Role;
 use links::Links;
 
-// What the check does with a record: an opener comes with its end field, a refusal with its number.
+// What the check does with a record.
 pub enum Act {
+    // It goes on: the record opens no scope and closes none.
     Stay,
+
+    // The record opens a scope, and this is its end field.
     Push(u32),
+
+    // The record closes the innermost scope.
     Pop,
-    Refused(u8),
+
+    // The record breaks a rule.
+    Refused(Refusal),
 }
 
 // The act at a record, with so many openers open and their indexes and end fields. The innermost is looked at only where the record
@@ -25,10 +32,10 @@ pub fn act_at(rec: &[u8], index: usize, opens: &[u32; 64], ends: &[u32; 64], dep
         Role::Opens => return open_at(rec, index, depth, innermost(opens, depth)),
         Role::Closes => {
             if depth == 0 {
-                return Act::Refused(Refusal::NOTHING_OPEN);
+                return Act::Refused(Refusal::at(Refusal::NOTHING_OPEN, index));
             }
             if innermost(ends, depth) as usize != index {
-                return Act::Refused(Refusal::WRONG_END);
+                return Act::Refused(Refusal::at(Refusal::WRONG_END, index));
             }
             return Act::Pop;
         }
@@ -41,16 +48,16 @@ fn open_at(rec: &[u8], index: usize, depth: usize, inner: u32) -> Act
     ensures { λ r. ⌜ r ≡ openOf (linksOf (now (rec .entry))) index depth inner ⌝ }
 {
     match links::links_of(rec) {
-        Links::Unread => return Act::Refused(Refusal::UNREADABLE_OPENER),
+        Links::Unread => return Act::Refused(Refusal::at(Refusal::UNREADABLE_OPENER, index)),
         Links::Read { parent, end } => {
             if index == 0 {
-                return Act::Refused(Refusal::OPENER_AT_0);
+                return Act::Refused(Refusal::at(Refusal::OPENER_AT_0, index));
             }
             if parent != inner {
-                return Act::Refused(Refusal::WRONG_PARENT);
+                return Act::Refused(Refusal::at(Refusal::WRONG_PARENT, index));
             }
             if 64 <= depth {
-                return Act::Refused(Refusal::TOO_DEEP);
+                return Act::Refused(Refusal::at(Refusal::TOO_DEEP, index));
             }
             return Act::Push(end);
         }

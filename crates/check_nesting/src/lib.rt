@@ -6,7 +6,7 @@ pub mod act;
 ghost use mathlib.Core.Path.{_≡_};
 ghost use Prim.Native.Nat.{_+_, _-_, _<_, _≤_, _^_};
 ghost use lib.ListN.{set};
-ghost use Rattle.check_nesting.specs.Check.{countedOf, openedOf, noCounts, endOf, refuses, checkOf, addsUp};
+ghost use Rattle.check_nesting.specs.Check.{countedOf, openedOf, noCounts, endOf, checkOf, addsUp};
 use act::Act;
 use chain::Chain;
 use common::Refusal;
@@ -23,8 +23,12 @@ pub struct Counts {
     pub deepest: usize,
 }
 
+// What the nesting check answers.
 pub enum Checked {
+    // The stream nests, and holds so much.
     Good(Counts),
+
+    // It does not, for this reason.
     Refused(Refusal),
 }
 
@@ -89,17 +93,7 @@ fn at_end(n: Counts, c: Scan, depth: usize, inner: u32) -> Checked
             deepest: n.deepest,
         });
     }
-    refused(Refusal::LEFT_OPEN, inner as usize)
-}
-
-fn refused(number: u8, position: usize) -> Checked
-    ensures { λ r. ⌜ r ≡ refuses number position ⌝ }
-{
-    Checked::Refused(Refusal {
-        number,
-        position,
-        detail: 0,
-    })
+    Checked::Refused(Refusal::at(Refusal::LEFT_OPEN, inner as usize))
 }
 
 // Frees the place of the innermost opener; how many are open then.
@@ -148,7 +142,7 @@ pub fn check(s: &[u8], start: usize) -> Checked
                         n = opened(n, depth);
                     }
                     Act::Pop => opens.depth = pop(&mut opens.at, &mut ends, depth),
-                    Act::Refused(number) => return refused(number, index),
+                    Act::Refused(e) => return Checked::Refused(e),
                 }
             }
         }

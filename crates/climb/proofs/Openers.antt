@@ -7,17 +7,18 @@ use Prim.Native.Nat.{ℕ, _-_, _≤_, _<_}
 use native.Mathlib.Omega.{arith}
 use lib.ListN.{length, take, drop}
 use lib.Dec.{eqb}
+use Rattle.common.specs.Reader.{refusal}
 use Rattle.iter.specs.Step.{scanOf, stepOf}
 use Rattle.iter.specs.declared.Next.{Next}
 use Rattle.iter.specs.declared.Next.the-variants as N
 use Rattle.iter.proofs.Reading.{step-fits}
 use Rattle.constants.specs.Raw.{nestingRoleOf}
 use Rattle.climb.specs.declared.opener.Opener.the-variants as O
-use Rattle.climb.specs.Opener.{openerRefused, openerIn, openerOn, openerOf}
+use Rattle.climb.specs.Opener.{openerIn, openerOn, openerOf}
 
 -- where the step yields a record, by the record as the caller lends it
 pub opener-record : (s : List ℕ) (at index from len next : ℕ) → scanOf s at .next ≡ N.Record index from len next →
-    openerOf s at ≡ cond (eqb index at) (openerIn (take (next - from) (drop from s)) (nestingRoleOf (take (next - from) (drop from s)))) (openerRefused 14)
+    openerOf s at ≡ cond (eqb index at) (openerIn (take (next - from) (drop from s)) (nestingRoleOf (take (next - from) (drop from s)))) (O.Refused (refusal 14 0 0))
 unfolding openerOf stepOf
 opener-record s at index from len next e =
     let y = step-fits s at index from len next e in

@@ -24,13 +24,16 @@ fn climb_from(s: &[u8], i: usize, first: usize) -> Finding
             return chain::finding::found(chain, depth);
         }
         if 64 <= depth {
-            return chain::finding::stopped(Refusal::TOO_DEEP);
+            return chain::finding::refused(Refusal::at(Refusal::TOO_DEEP, 0));
         }
         if index <= parent {
-            return chain::finding::stopped(Refusal::UNUSABLE_LINK);
+            return chain::finding::refused(Refusal::at(Refusal::UNUSABLE_LINK, 0));
         }
         match opener::opener_at(s, parent) {
-            Opener::Refused(_) => return chain::finding::stopped(Refusal::UNUSABLE_LINK),
+            Opener::Refused(_) => return chain::finding::refused(Refusal::at(
+                Refusal::UNUSABLE_LINK,
+                0,
+            )),
             Opener::Parent(next) => {
                 chain.at[depth] = parent as u32;
                 chain.depth = depth + 1;

@@ -21,7 +21,7 @@ pub fn jump(s: &[u8], start: usize, i: usize) -> Finding
     let mut read: usize = 0;
     loop {
         match iter::step(s, at) {
-            Next::End(_) => return chain::finding::stopped(Refusal::NOTHING_THERE),
+            Next::End(_) => return chain::finding::refused(Refusal::at(Refusal::NOTHING_THERE, 0)),
             Next::Refused(e) => return chain::finding::refused(e),
             Next::Record {
                 index,
@@ -46,7 +46,7 @@ pub fn jump(s: &[u8], start: usize, i: usize) -> Finding
                         Land::Refused(e) => return chain::finding::refused(e),
                     },
                     Hop::Found => return chain::finding::found(chain, read),
-                    Hop::Stop(number) => return chain::finding::stopped(number),
+                    Hop::Refused(e) => return chain::finding::refused(e),
                 }
             }
         }

@@ -11,11 +11,20 @@ use iter::Next;
 
 // What the walk does at a record that it reads.
 pub enum Turn {
+    // It goes on: the record opens no scope and closes none.
     Stay,
+
+    // The record opens a scope.
     Push,
+
+    // The record closes the innermost scope.
     Pop,
+
+    // The record is the one asked for.
     Found,
-    Stop(u8),
+
+    // The walk ends without it.
+    Refused(Refusal),
 }
 
 // The turn at the record `rec` of this index, on the way to i, with so many openers open.
@@ -26,18 +35,18 @@ fn turn_at(rec: &[u8], index: usize, i: usize, depth: usize) -> Turn
         return Turn::Found;
     }
     if i < index {
-        return Turn::Stop(Refusal::NOTHING_THERE);
+        return Turn::Refused(Refusal::at(Refusal::NOTHING_THERE, 0));
     }
     match constants::kind::nesting_role(rec) {
         Role::Opens => {
             if 64 <= depth {
-                return Turn::Stop(Refusal::TOO_DEEP);
+                return Turn::Refused(Refusal::at(Refusal::TOO_DEEP, 0));
             }
             return Turn::Push;
         }
         Role::Closes => {
             if depth == 0 {
-                return Turn::Stop(Refusal::NOTHING_OPEN);
+                return Turn::Refused(Refusal::at(Refusal::NOTHING_OPEN, 0));
             }
             return Turn::Pop;
         }
@@ -54,7 +63,7 @@ pub fn walk(s: &[u8], start: usize, i: usize) -> Finding
     let mut read: usize = 0;
     loop {
         match iter::step(s, at) {
-            Next::End(_) => return chain::finding::stopped(Refusal::NOTHING_THERE),
+            Next::End(_) => return chain::finding::refused(Refusal::at(Refusal::NOTHING_THERE, 0)),
             Next::Refused(e) => return chain::finding::refused(e),
             Next::Record {
                 index,
@@ -76,7 +85,7 @@ pub fn walk(s: &[u8], start: usize, i: usize) -> Finding
                         chain.depth = depth - 1;
                     }
                     Turn::Found => return chain::finding::found(chain, read),
-                    Turn::Stop(number) => return chain::finding::stopped(number),
+                    Turn::Refused(e) => return chain::finding::refused(e),
                 }
             }
         }

@@ -9,7 +9,7 @@ use native.Mathlib.Omega.{arith}
 use Rattle.check_nesting.specs.declared.Counts.{Counts}
 use Rattle.check_nesting.specs.declared.Checked.{Checked}
 use Rattle.check_nesting.specs.Check.{countedOf, checkOf, addsUp}
-use Rattle.check_nesting.proofs.Checks.{Checking, checking-first, Turn, Yields, scanned, found, act, depth-most, push-room, pop-room, at-refused, at-end, go-stay, go-push, go-pop, at-stop}
+use Rattle.check_nesting.proofs.Checks.{Checking, checking-first, Turn, Yields, scanned, found, act, depth-most, push-room, pop-room, at-refused, at-end, go-stay, go-push, go-pop, at-refusing}
 use Rattle.check_nesting.proofs.Sums.{sums}
 use Rattle.check_nesting.proofs.check.Statement.{statement}
 use Rattle.check_nesting.proofs.check.Tie as tie
@@ -117,7 +117,7 @@ loop-again-3 : tie.Need-loop-again-3 Inv-loop μ-loop
 loop-again-3 c = rw (c .pop .ensures .0, c .pop .ensures .1 .0, c .pop .ensures .1 .1, c .before .before .before .before .before .before .before .before .before .before .counted .ensures) (go-pop (recordAt (c .before .before .before .before .before .before .before .before .before .before .before)) (sym (acted (c .before .before .before .before .before)) ∙ c .before .before .before .enum-told3 .given .1))
 
 returns-3 : tie.Need-returns-3 Inv-loop μ-loop
-returns-3 c = both _ _ _ (c .refused .ensures ∙ at-stop (recordAt (c .before .before .before .before .before .before .before .before .before .before)) (sym (acted (c .before .before .before .before)) ∙ c .before .before .number .given .1))
+returns-3 c = both _ _ _ (at-refusing (recordAt (c .before .before .before .before .before .before .before .before .before)) (sym (acted (c .before .before .before)) ∙ c .before .e .given .1))
 
 pub check-spec : {M : Type 1} → statement M
 check-spec =
@@ -159,5 +159,4 @@ check-spec =
     loop-less-3
     loop-again-3
     (λ c. search needs)
-    (λ c κs. search needs)
     returns-3)

@@ -9,7 +9,7 @@ use Rattle.iter.specs.Step.{scanOf, stepOf}
 use Rattle.iter.specs.declared.Next.the-variants.{Record}
 use Rattle.iter.proofs.Reading.{step-fits}
 use Rattle.chain.proofs.Goings.{going-first, depth-most}
-use Rattle.walk.proofs.Walks.{Walking, push-room, pop-room, at-end, at-refused, going-stay, going-push, going-pop, at-found, at-stop}
+use Rattle.walk.proofs.Walks.{Walking, push-room, pop-room, at-end, at-refused, going-stay, going-push, going-pop, at-found, at-refusing}
 use Rattle.walk.proofs.walk.Statement.{statement}
 use Rattle.walk.proofs.walk.Tie as tie
 
@@ -37,10 +37,10 @@ loop-holds : tie.Need-loop-holds Inv-loop μ-loop
 loop-holds c = going-first _ _ _ _ (c .new .ensures)
 
 returns : tie.Need-returns Inv-loop μ-loop
-returns c = c .stopped .ensures ∙ at-end _ _ _ _ _ _ (c .before .before .before .before .loop .inv) _ (sym (c .before .before .before .step .ensures) ∙ c .before .enum-told .given .1)
+returns c = c .refused .ensures ∙ rw (c .before .at .ensures) (at-end _ _ _ _ _ _ (c .before .before .before .before .before .loop .inv) _ (sym (c .before .before .before .before .step .ensures) ∙ c .before .before .enum-told .given .1))
 
 returns-2 : tie.Need-returns-2 Inv-loop μ-loop
-returns-2 c = c .refused .ensures ∙ at-refused _ _ _ _ _ _ (c .before .before .before .before .before .loop .inv) _ (sym (c .before .before .before .before .step .ensures) ∙ c .before .before .e .given .1)
+returns-2 c = c .refused2 .ensures ∙ at-refused _ _ _ _ _ _ (c .before .before .before .before .before .loop .inv) _ (sym (c .before .before .before .before .step .ensures) ∙ c .before .before .e .given .1)
 
 add-read : tie.Need-add-read Inv-loop μ-loop
 add-read c = omega (arith, c .before .before .before .before .loop .inv, step-fits _ _ _ _ _ _ (stepped c))
@@ -100,7 +100,7 @@ returns-3 : tie.Need-returns-3 Inv-loop μ-loop
 returns-3 c = c .found .ensures ∙ at-found _ _ _ _ _ _ (c .before .before .before .before .before .before .before .before .before .loop .inv) _ _ _ _ (stepped (c .before .before .before .before .before)) (sym (c .before .before .before .turn-at .ensures) ∙ c .before .enum-told5 .given .1)
 
 returns-4 : tie.Need-returns-4 Inv-loop μ-loop
-returns-4 c = c .stopped2 .ensures ∙ at-stop _ _ _ _ _ _ (c .before .before .before .before .before .before .before .before .before .before .loop .inv) _ _ _ _ (stepped (c .before .before .before .before .before .before)) _ (sym (c .before .before .before .before .turn-at .ensures) ∙ c .before .before .number .given .1)
+returns-4 c = c .refused3 .ensures ∙ at-refusing _ _ _ _ _ _ (c .before .before .before .before .before .before .before .before .before .before .loop .inv) _ _ _ _ (stepped (c .before .before .before .before .before .before)) _ (sym (c .before .before .before .before .turn-at .ensures) ∙ c .before .before .e2 .given .1)
 
 pub walk-spec : {M : Type 1} → statement M
 walk-spec =
@@ -112,6 +112,7 @@ walk-spec =
     loop-holds
     (λ c κs. search needs)
     (λ c. search needs)
+    (λ c κs. search needs)
     (λ c κs. search needs)
     returns
     (λ c. search needs)

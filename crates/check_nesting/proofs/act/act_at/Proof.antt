@@ -16,11 +16,11 @@ returns c = rw (sym (c .before .before .before .before .nesting-role .ensures) �
 
 returns-2 : tie.Need-returns-2
 unfolding actOf
-returns-2 c = rw (sym (c .before .before .before .nesting-role .ensures) ∙ c .before .enum-told2 .given .1, eq-eqb _ _ (c .if1 .taken))
+returns-2 c = rw (c .at .ensures, sym (c .before .before .before .before .nesting-role .ensures) ∙ c .before .before .enum-told2 .given .1, eq-eqb _ _ (c .before .if1 .taken))
 
 returns-3 : tie.Need-returns-3
 unfolding actOf
-returns-3 c = rw (sym (c .before .before .before .before .before .nesting-role .ensures) ∙ c .before .before .before .enum-told2 .given .1, ne-eqb _ _ (c .before .before .if1 .left), sym (c .before .innermost2 .ensures), ne-eqb _ _ (c .if2 .taken))
+returns-3 c = rw (c .at2 .ensures, sym (c .before .before .before .before .before .before .nesting-role .ensures) ∙ c .before .before .before .before .enum-told2 .given .1, ne-eqb _ _ (c .before .before .before .if1 .left), sym (c .before .before .innermost2 .ensures), ne-eqb _ _ (c .before .if2 .taken))
 
 returns-4 : tie.Need-returns-4
 unfolding actOf
@@ -40,9 +40,11 @@ act-at-spec =
     open-at-requires
     returns
     (λ c. search needs)
+    (λ c κs. search needs)
     returns-2
     (λ c κs. search needs)
     (λ c. search needs)
+    (λ c κs. search needs)
     returns-3
     returns-4
     (λ c. search needs)

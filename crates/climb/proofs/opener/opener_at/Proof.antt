@@ -21,14 +21,14 @@ stepped c = sym (c .before .before .before .step .ensures) ∙ c .before .index 
 
 returns : tie.Need-returns
 unfolding openerOf
-returns c = c .no-opener .ensures ∙ rw (sym (c .before .before .before .step .ensures) ∙ c .before .enum-told .given .1)
+returns c = rw (c .at .ensures, sym (c .before .before .before .step .ensures) ∙ c .before .enum-told .given .1)
 
 returns-2 : tie.Need-returns-2
 unfolding openerOf
 returns-2 c = rw (sym (c .before .before .before .step .ensures) ∙ c .before .e .given .1)
 
 returns-3 : tie.Need-returns-3
-returns-3 c = c .no-opener2 .ensures ∙ rw (opener-record _ _ _ _ _ _ (stepped (c .before .before)), ne-eqb _ _ (c .before .if1 .taken))
+returns-3 c = rw (c .at2 .ensures, opener-record _ _ _ _ _ _ (stepped (c .before .before)), ne-eqb _ _ (c .before .if1 .taken))
 
 sub-nesting-role : tie.Need-sub-nesting-role
 sub-nesting-role c = omega (arith, step-fits _ _ _ _ _ _ (stepped (c .before)))
@@ -55,10 +55,10 @@ returns-4 : tie.Need-returns-4
 returns-4 c = c .opener-in .ensures ∙ rw (opener-record _ _ _ _ _ _ (stepped (c .before .before .before .before .before .before .before)), eq-eqb _ _ (c .before .before .before .before .before .before .if1 .left), sym (c .before .before .before .before .nesting-role .ensures) ∙ c .before .before .enum-told2 .given .1)
 
 returns-5 : tie.Need-returns-5
-returns-5 c = c .no-opener3 .ensures ∙ rw (opener-record _ _ _ _ _ _ (stepped (c .before .before .before .before .before .before)), eq-eqb _ _ (c .before .before .before .before .before .if1 .left), sym (c .before .before .before .nesting-role .ensures) ∙ c .before .enum-told3 .given .1)
+returns-5 c = rw (c .at3 .ensures, opener-record _ _ _ _ _ _ (stepped (c .before .before .before .before .before .before)), eq-eqb _ _ (c .before .before .before .before .before .if1 .left), sym (c .before .before .before .nesting-role .ensures) ∙ c .before .enum-told3 .given .1)
 
 returns-6 : tie.Need-returns-6
-returns-6 c = c .no-opener4 .ensures ∙ rw (opener-record _ _ _ _ _ _ (stepped (c .before .before .before .before .before .before)), eq-eqb _ _ (c .before .before .before .before .before .if1 .left), sym (c .before .before .before .nesting-role .ensures) ∙ c .before .enum-told4 .given .1)
+returns-6 c = rw (c .at4 .ensures, opener-record _ _ _ _ _ _ (stepped (c .before .before .before .before .before .before)), eq-eqb _ _ (c .before .before .before .before .before .if1 .left), sym (c .before .before .before .nesting-role .ensures) ∙ c .before .enum-told4 .given .1)
 
 pub opener-at-spec : {M : Type 1} → statement M
 opener-at-spec =

@@ -21,14 +21,14 @@ stepped c = sym (c .before .before .before .step .ensures) ∙ c .before .index 
 
 returns : tie.Need-returns
 unfolding landOf stepOf
-returns c = c .astray .ensures ∙ rw (sym (c .before .before .before .step .ensures) ∙ c .before .enum-told .given .1)
+returns c = rw (c .at .ensures, sym (c .before .before .before .step .ensures) ∙ c .before .enum-told .given .1)
 
 returns-2 : tie.Need-returns-2
 unfolding landOf stepOf
 returns-2 c = rw (sym (c .before .before .before .step .ensures) ∙ c .before .e .given .1)
 
 returns-3 : tie.Need-returns-3
-returns-3 c = c .astray2 .ensures ∙ rw (land-record _ _ _ _ _ _ (stepped (c .before .before)), ne-eqb _ _ (c .before .if1 .taken))
+returns-3 c = rw (c .at2 .ensures, land-record _ _ _ _ _ _ (stepped (c .before .before)), ne-eqb _ _ (c .before .if1 .taken))
 
 sub-nesting-role : tie.Need-sub-nesting-role
 sub-nesting-role c = omega (arith, step-fits _ _ _ _ _ _ (stepped (c .before)))
@@ -40,13 +40,13 @@ part-nesting-role-end : tie.Need-part-nesting-role-end
 part-nesting-role-end c = omega (arith, step-fits _ _ _ _ _ _ (stepped (c .before)))
 
 returns-4 : tie.Need-returns-4
-returns-4 c = c .astray3 .ensures ∙ rw (land-record _ _ _ _ _ _ (stepped (c .before .before .before .before .before .before)), eq-eqb _ _ (c .before .before .before .before .before .if1 .left), sym (c .before .before .before .nesting-role .ensures) ∙ c .before .enum-told2 .given .1)
+returns-4 c = rw (c .at3 .ensures, land-record _ _ _ _ _ _ (stepped (c .before .before .before .before .before .before)), eq-eqb _ _ (c .before .before .before .before .before .if1 .left), sym (c .before .before .before .nesting-role .ensures) ∙ c .before .enum-told2 .given .1)
 
 returns-5 : tie.Need-returns-5
 returns-5 c = rw (land-record _ _ _ _ _ _ (stepped (c .before .before .before .before .before)), eq-eqb _ _ (c .before .before .before .before .if1 .left), sym (c .before .before .nesting-role .ensures) ∙ c .enum-told3 .given .1)
 
 returns-6 : tie.Need-returns-6
-returns-6 c = c .astray4 .ensures ∙ rw (land-record _ _ _ _ _ _ (stepped (c .before .before .before .before .before .before)), eq-eqb _ _ (c .before .before .before .before .before .if1 .left), sym (c .before .before .before .nesting-role .ensures) ∙ c .before .enum-told4 .given .1)
+returns-6 c = rw (c .at4 .ensures, land-record _ _ _ _ _ _ (stepped (c .before .before .before .before .before .before)), eq-eqb _ _ (c .before .before .before .before .before .if1 .left), sym (c .before .before .before .nesting-role .ensures) ∙ c .before .enum-told4 .given .1)
 
 pub land-at-spec : {M : Type 1} → statement M
 land-at-spec =
