@@ -9,9 +9,16 @@ use check_nesting::Checked;
 
 // What the four calls return.
 pub struct Answers {
+    // The nesting check's, from the start.
     pub checked: Checked,
+
+    // The walk finder's, from the start to the position.
     pub walked: Finding,
+
+    // The jump finder's, from the start to the position.
     pub jumped: Finding,
+
+    // The climb finder's, from the position.
     pub climbed: Finding,
 }
 

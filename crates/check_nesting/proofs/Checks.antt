@@ -14,8 +14,8 @@ use Rattle.iter.specs.Reading.{Rec, Reading, recAt, ended, more, onNext, readOf
 use Rattle.iter.specs.declared.Scan.{Scan}
 use Rattle.iter.specs.declared.Next.{Next}
 use Rattle.iter.specs.declared.Next.the-variants as N
-use Rattle.iter.proofs.Reading.{Stepped, step-fits, read-by, Skips, skips}
-use Rattle.iter.proofs.Records.{bytes-length, skipped-to}
+use Rattle.iter.proofs.Reading.{Stepped, step-fits, read-by, Fillers, fillers-of}
+use Rattle.iter.proofs.Records.{bytes-length, fillers-to}
 use Rattle.chain.specs.Chain.{chainOf, topOf}
 use Rattle.chain.specs.declared.Chain.{Chain}
 use Rattle.chain.proofs.Laws.{pushed, popped, stack-depth, push-stack, pop-stack, length-tail, top-stack, top-none}
@@ -61,20 +61,20 @@ top-end (o ∷ st) h = top-each (λ x. x .end) o st h
 
 -- what is known of a scan, in numbers
 pub record Scanned (s : List ℕ) (at : ℕ) (c : Scan) : Type 0 where
-  pub less : c .skipped ≤ length s - at
-  pub few : c .passed ≤ c .skipped
+  pub less : c .«filler_bytes» ≤ length s - at
+  pub few : c .fillers ≤ c .«filler_bytes»
 
 scan-bounds : (s : List ℕ) (at : ℕ) (c : Scan) → c ≡ scanOf s at → Scanned s at c
-scan-bounds s at c e = subst (Scanned s at) (sym e) (by (ltb at (length s)) refl (skips s at))
+scan-bounds s at c e = subst (Scanned s at) (sym e) (by (ltb at (length s)) refl (fillers-of s at))
   where
-    by : (b : Bool) → ltb at (length s) ≡ b → Skips s (cond b at (length s)) (scanOf s at) → Scanned s at (scanOf s at)
+    by : (b : Bool) → ltb at (length s) ≡ b → Fillers s (cond b at (length s)) (scanOf s at) → Scanned s at (scanOf s at)
     by true q k = record { less = omega (arith, k .within, ltb-true); few = k .few }
     by false q k = record { less = omega (arith, k .within); few = k .few }
 
 -- and of the record that it yields
 pub record Found (s : List ℕ) (at : ℕ) (c : Scan) (index from len next : ℕ) : Type 0 where
   pub stepped : Stepped s at index from len next
-  pub exact : at + c .skipped ≡ index
+  pub exact : at + c .«filler_bytes» ≡ index
   pub size : length (take len (drop from s)) ≡ len
 
 found-bounds : (s : List ℕ) (at : ℕ) (c : Scan) (index from len next : ℕ) → c ≡ scanOf s at → c .next ≡ N.Record index from len next → Found s at c index from len next
@@ -84,7 +84,7 @@ found-bounds s at c index from len next e n = subst (λ (x : Scan). Found s at x
     it q =
         record {
           stepped = step-fits s at index from len next q;
-          exact = skipped-to s at index from len next q;
+          exact = fillers-to s at index from len next q;
           size = bytes-length s at index from len next q;
         }
 
@@ -102,8 +102,8 @@ pub record Checking (s : List ℕ) (start : ℕ) (opens : Chain) (ends-of : List
   pub most : length stack ≤ 64
   pub same : checkFrom (readOf s at) stack n ≡ checkOf s start
   pub records : n .records + (length s - at) ≤ length s
-  pub bytes : n .bytes + n .skipped + (length s - at) ≤ length s
-  pub passed : n .passed ≤ n .skipped
+  pub bytes : n .bytes + n .«filler_bytes» + (length s - at) ≤ length s
+  pub fillers : n .fillers ≤ n .«filler_bytes»
   pub openers : n .openers ≤ n .records
 
 pub checking-first : (s : List ℕ) (start : ℕ) (opens : Chain) (ends-of : List ℕ) → opens ≡ chainOf [] → ends-of ≡ replicate 64 0 →
@@ -118,7 +118,7 @@ checking-first s start opens ends-of eo ee =
       same = refl;
       records = omega arith;
       bytes = omega arith;
-      passed = omega arith;
+      fillers = omega arith;
       openers = omega arith;
     }
 
@@ -163,7 +163,7 @@ module _ {s : List ℕ} {start : ℕ} {opens : Chain} {ends-of : List ℕ} {n : 
   pub at-refused : {x : Refusal} → c .next ≡ N.Refused x → C.Refused x ≡ checkOf s start
   at-refused {x} e = last (N.Refused x) e (reading (N.Refused x) e)
 
-  pub at-end : {p : ℕ} → c .next ≡ N.End p → endOf n (c .passed) (c .skipped) (opens .depth) (topOf opens) ≡ checkOf s start
+  pub at-end : {p : ℕ} → c .next ≡ N.End p → endOf n (c .fillers) (c .«filler_bytes») (opens .depth) (topOf opens) ≡ checkOf s start
   at-end {p} e = rw (inner, depth) (last (N.End p) e (reading (N.End p) e))
 
 module _ {s : List ℕ} {start : ℕ} {opens : Chain} {ends-of : List ℕ} {n : Counts} {at : ℕ} {c : Scan} {index from len next : ℕ}
@@ -196,11 +196,11 @@ module _ {s : List ℕ} {start : ℕ} {opens : Chain} {ends-of : List ℕ} {n : 
   pub pop-room : act ≡ A.Pop → opens .depth ≡ 0 → ⊥
   pop-room ea = roomy A.Pop ea
 
-  counts : countRec n r ≡ countedOf n (c .passed) (c .skipped) len
+  counts : countRec n r ≡ countedOf n (c .fillers) (c .«filler_bytes») len
   unfolding countRec
-  counts = ap (countedOf n (c .passed) (c .skipped)) (found .size)
+  counts = ap (countedOf n (c .fillers) (c .«filler_bytes»)) (found .size)
 
-  pub go-stay : act ≡ A.Stay → Checking s start opens ends-of (countedOf n (c .passed) (c .skipped) len) next
+  pub go-stay : act ≡ A.Stay → Checking s start opens ends-of (countedOf n (c .fillers) (c .«filler_bytes») len) next
   unfolding countedOf
   go-stay ea =
       record {
@@ -211,13 +211,13 @@ module _ {s : List ℕ} {start : ℕ} {opens : Chain} {ends-of : List ℕ} {n : 
         same = ap (λ (m : Counts). checkFrom (readOf s next) stack m) (sym counts) ∙ left A.Stay ea;
         records = omega (arith, y .turn .inv .records, found);
         bytes = omega (arith, y .turn .inv .bytes, found);
-        passed = omega (arith, y .turn .inv .passed, scanned (y .turn));
+        fillers = omega (arith, y .turn .inv .fillers, scanned (y .turn));
         openers = omega (arith, y .turn .inv .openers);
       }
 
   -- the stack after the stores that a push and a pop make
   pub go-pop : act ≡ A.Pop →
-      Checking s start (popped opens) (set ends-of (opens .depth - 1) 0) (countedOf n (c .passed) (c .skipped) len) next
+      Checking s start (popped opens) (set ends-of (opens .depth - 1) 0) (countedOf n (c .fillers) (c .«filler_bytes») len) next
   unfolding countedOf
   go-pop ea =
       let li = length-each (λ o. o .index) stack in
@@ -234,12 +234,12 @@ module _ {s : List ℕ} {start : ℕ} {opens : Chain} {ends-of : List ℕ} {n : 
         same = ap (λ (m : Counts). checkFrom (readOf s next) (tail stack) m) (sym counts) ∙ left A.Pop ea;
         records = omega (arith, y .turn .inv .records, found);
         bytes = omega (arith, y .turn .inv .bytes, found);
-        passed = omega (arith, y .turn .inv .passed, scanned (y .turn));
+        fillers = omega (arith, y .turn .inv .fillers, scanned (y .turn));
         openers = omega (arith, y .turn .inv .openers);
       }
 
   pub go-push : {end : ℕ} → act ≡ A.Push end →
-      Checking s start (pushed opens index) (set ends-of (opens .depth) end) (openedOf (countedOf n (c .passed) (c .skipped) len) (opens .depth)) next
+      Checking s start (pushed opens index) (set ends-of (opens .depth) end) (openedOf (countedOf n (c .fillers) (c .«filler_bytes») len) (opens .depth)) next
   unfolding countedOf openedOf
   go-push {end} ea =
       let h : opens .depth < 64 = push-room ea in
@@ -253,11 +253,11 @@ module _ {s : List ℕ} {start : ℕ} {opens : Chain} {ends-of : List ℕ} {n : 
         most = omega arith;
         same =
             ap (λ (m : Counts). checkFrom (readOf s next) (record { index = index; end = end } ∷ stack) m)
-            (ap (λ (x : ℕ). openedOf (countedOf n (c .passed) (c .skipped) len) x) (depth (y .turn)) ∙ ap (λ (m : Counts). openedOf m (length stack)) (sym counts))
+            (ap (λ (x : ℕ). openedOf (countedOf n (c .fillers) (c .«filler_bytes») len) x) (depth (y .turn)) ∙ ap (λ (m : Counts). openedOf m (length stack)) (sym counts))
             ∙ left (A.Push end) ea;
         records = omega (arith, y .turn .inv .records, found);
         bytes = omega (arith, y .turn .inv .bytes, found);
-        passed = omega (arith, y .turn .inv .passed, scanned (y .turn));
+        fillers = omega (arith, y .turn .inv .fillers, scanned (y .turn));
         openers = omega (arith, y .turn .inv .openers);
       }
 

@@ -30,22 +30,22 @@ refused-not-good q = let z : _≡_ {A = ℕ} 0 1 = cc in omega arith
 module _ (last : Scan) (m : Counts) where
   -- a check that passes: what was counted and what is left make the sums of the answer, and the last step does not refuse
   record Sums (rs : List Rec) (n : Counts) : Type 0 where
-    total : n .bytes + n .skipped + (bytesOfRecords rs + last .skipped) ≡ m .bytes + m .skipped
+    total : n .bytes + n .«filler_bytes» + (bytesOfRecords rs + last .«filler_bytes») ≡ m .bytes + m .«filler_bytes»
     passes : (e : Refusal) → last .next ≡ N.Refused e → ⊥
 
-  end-total : (n : Counts) (passed depth inner : ℕ) → endOf n passed (last .skipped) depth inner ≡ C.Good m → n .bytes + n .skipped + (0 + last .skipped) ≡ m .bytes + m .skipped
+  end-total : (n : Counts) (fillers depth inner : ℕ) → endOf n fillers (last .«filler_bytes») depth inner ≡ C.Good m → n .bytes + n .«filler_bytes» + (0 + last .«filler_bytes») ≡ m .bytes + m .«filler_bytes»
   unfolding endOf
-  end-total n passed depth inner = by (eqb depth 0)
+  end-total n fillers depth inner = by (eqb depth 0)
     where
       sumOf : Checked → ℕ
-      sumOf (C.Good x) = x .bytes + x .skipped
+      sumOf (C.Good x) = x .bytes + x .«filler_bytes»
       sumOf (C.Refused e) = 0
 
       counted : Counts
-      counted = record { records = n .records; bytes = n .bytes; passed = n .passed + passed; skipped = n .skipped + last .skipped; openers = n .openers; deepest = n .deepest }
+      counted = record { records = n .records; bytes = n .bytes; fillers = n .fillers + fillers; «filler_bytes» = n .«filler_bytes» + last .«filler_bytes»; openers = n .openers; deepest = n .deepest }
 
-      by : (b : Bool) → cond b (C.Good counted) (C.Refused (refusal 12 inner 0)) ≡ C.Good m → n .bytes + n .skipped + (0 + last .skipped) ≡ m .bytes + m .skipped
-      by true g = let q : n .bytes + (n .skipped + last .skipped) ≡ m .bytes + m .skipped = ap sumOf g in omega arith
+      by : (b : Bool) → cond b (C.Good counted) (C.Refused (refusal 12 inner 0)) ≡ C.Good m → n .bytes + n .«filler_bytes» + (0 + last .«filler_bytes») ≡ m .bytes + m .«filler_bytes»
+      by true g = let q : n .bytes + (n .«filler_bytes» + last .«filler_bytes») ≡ m .bytes + m .«filler_bytes» = ap sumOf g in omega arith
       by false g = absurd (refused-not-good g)
 
   last-sums : (x : Next) → last .next ≡ x → (st : List Open) (n : Counts) → onLast last x st n ≡ C.Good m → Sums [] n
@@ -78,6 +78,6 @@ sums s start (C.Good m) q =
     let a = adds-up s start (y .passes) in
     by (ltb start (length s)) refl (omega (arith, y .total, a))
   where
-    by : (b : Bool) → ltb start (length s) ≡ b → m .bytes + m .skipped ≡ length s - start → m .bytes + m .skipped ≡ length s - cond b start (length s)
+    by : (b : Bool) → ltb start (length s) ≡ b → m .bytes + m .«filler_bytes» ≡ length s - start → m .bytes + m .«filler_bytes» ≡ length s - cond b start (length s)
     by true e h = h
     by false e h = omega (arith, ltb-false)

@@ -13,13 +13,24 @@ use common::Refusal;
 use iter::Next;
 use iter::Scan;
 
-// Records yielded and their bytes, records passed over and theirs, openers, deepest nesting.
+// What a stream holds, from the start that is checked on.
 pub struct Counts {
+    // The records that steps yield.
     pub records: usize,
+
+    // Their bytes, length fields included.
     pub bytes: usize,
-    pub passed: usize,
-    pub skipped: usize,
+
+    // The fillers passed over.
+    pub fillers: usize,
+
+    // Their bytes, length fields included.
+    pub filler_bytes: usize,
+
+    // The records that open a scope.
     pub openers: usize,
+
+    // How many scopes are open where the most are.
     pub deepest: usize,
 }
 
@@ -38,8 +49,8 @@ fn no_counts() -> Counts
     Counts {
         records: 0,
         bytes: 0,
-        passed: 0,
-        skipped: 0,
+        fillers: 0,
+        filler_bytes: 0,
         openers: 0,
         deepest: 0,
     }
@@ -49,15 +60,15 @@ fn no_counts() -> Counts
 fn counted(n: Counts, c: Scan, len: usize) -> Counts
     requires { ⌜ n .records + 1 < 2 ^ 64 ⌝ }
     requires { ⌜ n .bytes + (2 + len) < 2 ^ 64 ⌝ }
-    requires { ⌜ n .passed + c .passed < 2 ^ 64 ⌝ }
-    requires { ⌜ n .skipped + c .skipped < 2 ^ 64 ⌝ }
-    ensures { λ r. ⌜ r ≡ countedOf n (c .passed) (c .skipped) len ⌝ }
+    requires { ⌜ n .fillers + c .fillers < 2 ^ 64 ⌝ }
+    requires { ⌜ n .«filler_bytes» + c .«filler_bytes» < 2 ^ 64 ⌝ }
+    ensures { λ r. ⌜ r ≡ countedOf n (c .fillers) (c .«filler_bytes») len ⌝ }
 {
     Counts {
         records: n.records + 1,
         bytes: n.bytes + (2 + len),
-        passed: n.passed + c.passed,
-        skipped: n.skipped + c.skipped,
+        fillers: n.fillers + c.fillers,
+        filler_bytes: n.filler_bytes + c.filler_bytes,
         openers: n.openers,
         deepest: n.deepest,
     }
@@ -79,16 +90,16 @@ fn opened(n: Counts, depth: usize) -> Counts
 
 // The answer at End, which the step c came to.
 fn at_end(n: Counts, c: Scan, depth: usize, inner: u32) -> Checked
-    requires { ⌜ n .passed + c .passed < 2 ^ 64 ⌝ }
-    requires { ⌜ n .skipped + c .skipped < 2 ^ 64 ⌝ }
-    ensures { λ r. ⌜ r ≡ endOf n (c .passed) (c .skipped) depth inner ⌝ }
+    requires { ⌜ n .fillers + c .fillers < 2 ^ 64 ⌝ }
+    requires { ⌜ n .«filler_bytes» + c .«filler_bytes» < 2 ^ 64 ⌝ }
+    ensures { λ r. ⌜ r ≡ endOf n (c .fillers) (c .«filler_bytes») depth inner ⌝ }
 {
     if depth == 0 {
         return Checked::Good(Counts {
             records: n.records,
             bytes: n.bytes,
-            passed: n.passed + c.passed,
-            skipped: n.skipped + c.skipped,
+            fillers: n.fillers + c.fillers,
+            filler_bytes: n.filler_bytes + c.filler_bytes,
             openers: n.openers,
             deepest: n.deepest,
         });

@@ -46,7 +46,7 @@ streamA =
     0x02 ∷ 0x00 ∷ 0x06 ∷ 0x00 ∷ []
 
 -- P1 A passes: 5 and 1 records, 64 and 4 bytes, 2 openers, depth 2.
-p1 : C.checkOf streamA 4 ≡ Good (record { records = 5; bytes = 64; passed = 1; skipped = 4; openers = 2; deepest = 2 })
+p1 : C.checkOf streamA 4 ≡ Good (record { records = 5; bytes = 64; fillers = 1; «filler_bytes» = 4; openers = 2; deepest = 2 })
 unfolding streamA C.checkOf C.checkFrom C.checkOn actOf C.noCounts C.countedOf C.openedOf C.countRec C.endOf readOf readFrom scanOf scanFrom frameAt B.le rawKind nestingRoleOf K.nestingRole K.roleOf K.find K.kinds linksOf decode byKind layout R._>>=_ R.uint N.run N.cstring N.symbolName S.block K.classOf
 p1 = refl
 

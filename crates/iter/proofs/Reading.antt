@@ -116,15 +116,15 @@ module _ (s : List ℕ) where
   read-by at n e = unroll at ∙ ap (λ (m : Next). onNext s (scanOf s at) m (λ q. readFrom (length s) s q)) e
 
 -- The bytes passed over end where the step stops, and each record passed over has bytes.
-pub record Skips (s : List ℕ) (p : ℕ) (c : Scan) : Type 0 where
-  pub within : p + c .skipped ≤ length s
-  pub few : c .passed ≤ c .skipped
-  pub at-record : (index start len next : ℕ) → c .next ≡ Record index start len next → p + c .skipped ≡ index
-  pub at-end : (q : ℕ) → c .next ≡ End q → p + c .skipped ≡ q
+pub record Fillers (s : List ℕ) (p : ℕ) (c : Scan) : Type 0 where
+  pub within : p + c .«filler_bytes» ≤ length s
+  pub few : c .fillers ≤ c .«filler_bytes»
+  pub at-record : (index start len next : ℕ) → c .next ≡ Record index start len next → p + c .«filler_bytes» ≡ index
+  pub at-end : (q : ℕ) → c .next ≡ End q → p + c .«filler_bytes» ≡ q
 
-nothing-skipped : (s : List ℕ) (p : ℕ) (n : Next) → p ≤ length s →
-    ((index start len next : ℕ) → n ≡ Record index start len next → p ≡ index) → ((q : ℕ) → n ≡ End q → p ≡ q) → Skips s p (plain n)
-nothing-skipped s p n h r e =
+no-fillers : (s : List ℕ) (p : ℕ) (n : Next) → p ≤ length s →
+    ((index start len next : ℕ) → n ≡ Record index start len next → p ≡ index) → ((q : ℕ) → n ≡ End q → p ≡ q) → Fillers s p (plain n)
+no-fillers s p n h r e =
     record {
       within = omega arith;
       few = omega arith;
@@ -132,19 +132,19 @@ nothing-skipped s p n h r e =
       at-end = λ x q. add-zero p ∙ e x q;
     }
 
-skips-frame :
+fillers-frame :
     (s : List ℕ) (p k : ℕ) → p ≤ length s →
-    ((q : ℕ) → q ≤ length s → Skips s q (scanFrom k s q)) →
-    (f : Frame) → frameAt s p ≡ f → Skips s p (onFrame p f (λ q. scanFrom k s q))
-skips-frame s p k h ih F.Nothing ef = nothing-skipped s p (End p) h (λ i a l n e. absurd (let z : _≡_ {A = ℕ} 0 1 = cc in omega arith)) (λ q e. cc)
-skips-frame s p k h ih (F.Refused r) ef =
-    nothing-skipped s p (Refused r) h (λ i a l m e. absurd (let z : _≡_ {A = ℕ} 0 1 = cc in omega arith)) (λ q e. absurd (let z : _≡_ {A = ℕ} 0 1 = cc in omega arith))
-skips-frame s p k h ih (F.Whole kind l) ef = go (isFiller kind)
+    ((q : ℕ) → q ≤ length s → Fillers s q (scanFrom k s q)) →
+    (f : Frame) → frameAt s p ≡ f → Fillers s p (onFrame p f (λ q. scanFrom k s q))
+fillers-frame s p k h ih F.Nothing ef = no-fillers s p (End p) h (λ i a l n e. absurd (let z : _≡_ {A = ℕ} 0 1 = cc in omega arith)) (λ q e. cc)
+fillers-frame s p k h ih (F.Refused r) ef =
+    no-fillers s p (Refused r) h (λ i a l m e. absurd (let z : _≡_ {A = ℕ} 0 1 = cc in omega arith)) (λ q e. absurd (let z : _≡_ {A = ℕ} 0 1 = cc in omega arith))
+fillers-frame s p k h ih (F.Whole kind l) ef = go (isFiller kind)
   where
     w : Fits s p l
     w = whole-fits s p kind l ef
 
-    go : (b : Bool) → Skips s p (onKind b p l (λ q. scanFrom k s q))
+    go : (b : Bool) → Fillers s p (onKind b p l (λ q. scanFrom k s q))
     go true =
         let y = ih (p + 2 + l) (w .within) in
         record {
@@ -153,12 +153,12 @@ skips-frame s p k h ih (F.Whole kind l) ef = go (isFiller kind)
           at-record = λ i a len n e. omega (arith, y .at-record i a len n e);
           at-end = λ q e. omega (arith, y .at-end q e);
         }
-    go false = nothing-skipped s p (Record p (p + 2) l (p + 2 + l)) h (λ i a len n e. cc) (λ q e. absurd (let z : _≡_ {A = ℕ} 0 1 = cc in omega arith))
+    go false = no-fillers s p (Record p (p + 2) l (p + 2 + l)) h (λ i a len n e. cc) (λ q e. absurd (let z : _≡_ {A = ℕ} 0 1 = cc in omega arith))
 
-skips-from : (s : List ℕ) (k p : ℕ) → p ≤ length s → Skips s p (scanFrom k s p)
+fillers-from : (s : List ℕ) (k p : ℕ) → p ≤ length s → Fillers s p (scanFrom k s p)
 unfolding scanFrom
-skips-from s zero p h = nothing-skipped s p (End p) h (λ i a l n e. absurd (let z : _≡_ {A = ℕ} 0 1 = cc in omega arith)) (λ q e. cc)
-skips-from s (suc k) p h = skips-frame s p k h (skips-from s k) (frameAt s p) refl
+fillers-from s zero p h = no-fillers s p (End p) h (λ i a l n e. absurd (let z : _≡_ {A = ℕ} 0 1 = cc in omega arith)) (λ q e. cc)
+fillers-from s (suc k) p h = fillers-frame s p k h (fillers-from s k) (frameAt s p) refl
 
 within-le : (s : List ℕ) (at : ℕ) → within s at ≤ length s
 within-le s at = go (ltb at (length s)) refl
@@ -167,15 +167,15 @@ within-le s at = go (ltb at (length s)) refl
     go true e = omega (arith, ltb-true)
     go false e = omega arith
 
-pub skips : (s : List ℕ) (at : ℕ) → Skips s (within s at) (scanOf s at)
+pub fillers-of : (s : List ℕ) (at : ℕ) → Fillers s (within s at) (scanOf s at)
 unfolding scanOf
-skips s at = go (ltb 4294967295 (length s))
+fillers-of s at = go (ltb 4294967295 (length s))
   where
-    go : (b : Bool) → Skips s (within s at) (cond b (plain (Refused (refusal 5 0 0))) (scanFrom (suc (length s)) s (within s at)))
+    go : (b : Bool) → Fillers s (within s at) (cond b (plain (Refused (refusal 5 0 0))) (scanFrom (suc (length s)) s (within s at)))
     go true =
-        nothing-skipped s (within s at) (Refused (refusal 5 0 0)) (within-le s at)
+        no-fillers s (within s at) (Refused (refusal 5 0 0)) (within-le s at)
         (λ i a l m e. absurd (let z : _≡_ {A = ℕ} 0 1 = cc in omega arith)) (λ q e. absurd (let z : _≡_ {A = ℕ} 0 1 = cc in omega arith))
-    go false = skips-from s (suc (length s)) (within s at) (within-le s at)
+    go false = fillers-from s (suc (length s)) (within s at) (within-le s at)
 
 -- End is at the end of the stream
 nothing-past : (s : List ℕ) (p : ℕ) → frameAt s p ≡ F.Nothing → length s ≤ p

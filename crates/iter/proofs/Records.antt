@@ -17,7 +17,7 @@ use Rattle.iter.specs.declared.Frame.{Frame}
 use Rattle.iter.specs.declared.Frame.the-variants as F
 use Rattle.iter.specs.declared.Next.{Next}
 use Rattle.iter.specs.declared.Next.the-variants.{End, Refused, Record}
-use Rattle.iter.proofs.Reading.{step-fits, read-by, Skips, skips, end-is}
+use Rattle.iter.proofs.Reading.{step-fits, read-by, Fillers, fillers-of, end-is}
 
 -- what stands at the index of a yielded record: its frame, which is no filler's
 record Own (s : List ℕ) (index start len next : ℕ) : Type 0 where
@@ -96,11 +96,11 @@ bytes-length s at index start len next e =
     simp (length-take, length-drop) (omega arith)
 
 -- a record that a step yields begins behind what the step passed over
-pub skipped-to : (s : List ℕ) (at index start len next : ℕ) → scanOf s at .next ≡ Record index start len next → at + scanOf s at .skipped ≡ index
-skipped-to s at index start len next e =
+pub fillers-to : (s : List ℕ) (at index start len next : ℕ) → scanOf s at .next ≡ Record index start len next → at + scanOf s at .«filler_bytes» ≡ index
+fillers-to s at index start len next e =
     let y = step-fits s at index start len next e in
     let inside : at < length s = omega (arith, y) in
-    let k : Skips s at (scanOf s at) = rw (lt-ltb at (length s) inside) at (skips s at) in
+    let k : Fillers s at (scanOf s at) = rw (lt-ltb at (length s) inside) at (fillers-of s at) in
     k .at-record index start len next e
 
 -- the records of a list stand one behind the other, from a position on
@@ -120,10 +120,10 @@ rising s =
 -- the bytes of a reading: those of the records, of their length fields, and of what was passed over
 abbrev pub bytesOfRecords : List Rec → ℕ
 bytesOfRecords [] = 0
-bytesOfRecords (r ∷ rs) = r .skipped + (2 + length (r .bytes)) + bytesOfRecords rs
+bytesOfRecords (r ∷ rs) = r .«filler_bytes» + (2 + length (r .bytes)) + bytesOfRecords rs
 
 abbrev pub bytesRead : Reading → ℕ
-bytesRead r = bytesOfRecords (r .recs) + r .last .skipped
+bytesRead r = bytesOfRecords (r .recs) + r .last .«filler_bytes»
 
 -- a reading that ends at the end of the stream passes over or yields every byte from its start on
 pub adds-up : (s : List ℕ) (at : ℕ) → ((e : Refusal) → readOf s at .last .next ≡ Refused e → ⊥) → bytesRead (readOf s at) ≡ length s - at
@@ -133,13 +133,13 @@ adds-up s =
     (λ at x e d. absurd (d x e))
     (λ at index start len next e ih d.
     let y = step-fits s at index start len next e in
-    let k = skipped-to s at index start len next e in
+    let k = fillers-to s at index start len next e in
     let i = ih d in
     omega (arith, bytes-length s at index start len next e))
   where
-    at-end : (at q : ℕ) → scanOf s at .next ≡ End q → 0 + scanOf s at .skipped ≡ length s - at
-    at-end at q e = go (ltb at (length s)) refl (skips s at)
+    at-end : (at q : ℕ) → scanOf s at .next ≡ End q → 0 + scanOf s at .«filler_bytes» ≡ length s - at
+    at-end at q e = go (ltb at (length s)) refl (fillers-of s at)
       where
-        go : (b : Bool) → ltb at (length s) ≡ b → Skips s (cond b at (length s)) (scanOf s at) → 0 + scanOf s at .skipped ≡ length s - at
+        go : (b : Bool) → ltb at (length s) ≡ b → Fillers s (cond b at (length s)) (scanOf s at) → 0 + scanOf s at .«filler_bytes» ≡ length s - at
         go true eb k = omega (arith, k .at-end q e, end-is s at q e)
         go false eb k = omega (arith, k .at-end q e, end-is s at q e, ltb-false)

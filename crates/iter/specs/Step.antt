@@ -25,10 +25,10 @@ frameAt s at =
 
 -- a step that passes nothing over, and one that passes over a filler of len bytes first
 abbrev pub plain : Next → Scan
-plain n = record { passed = 0; skipped = 0; next = n }
+plain n = record { fillers = 0; «filler_bytes» = 0; next = n }
 
 abbrev pub passOver : ℕ → Scan → Scan
-passOver len c = record { passed = c .passed + 1; skipped = c .skipped + (2 + len); next = c .next }
+passOver len c = record { fillers = c .fillers + 1; «filler_bytes» = c .«filler_bytes» + (2 + len); next = c .next }
 
 -- fillers are passed over and reading goes on (`on`); otherwise: index, the record's bytes, next position
 abbrev pub onKind : Bool → ℕ → ℕ → (ℕ → Scan) → Scan

@@ -8,10 +8,15 @@ use common::Refusal;
 // The longest stream that is read.
 pub const MAX_STREAM: usize = 0xffff_ffff;
 
-// What stands at a position: nothing, a record of a kind and a length behind its length field, or a refusal.
+// What stands at a position.
 pub enum Frame {
+    // No byte is left.
     Nothing,
+
+    // No whole record, for this reason.
     Refused(Refusal),
+
+    // A record of a kind, with so many bytes behind its length field, its kind's two among them.
     Whole { kind: u16, len: usize },
 }
 
@@ -37,11 +42,15 @@ fn frame_at(s: &[u8], at: usize) -> Frame
     Frame::Whole { kind, len }
 }
 
-// Where a step ends: at the end of the stream, at a refusal, or at a record: the position of its length field, its bytes, kind
-// first, and the position after it.
+// Where a step ends.
 pub enum Next {
+    // At the end of the stream, which is this position.
     End(usize),
+
+    // At bytes that are no record, for this reason.
     Refused(Refusal),
+
+    // At a record: the position of its length field, where its bytes start, kind first, how many they are, and the position after it.
     Record {
         index: usize,
         start: usize,
@@ -50,10 +59,15 @@ pub enum Next {
     },
 }
 
-// A step, with how many fillers it passed over and their bytes, length fields included.
+// A step, with what it passed over.
 pub struct Scan {
-    pub passed: usize,
-    pub skipped: usize,
+    // The fillers passed over.
+    pub fillers: usize,
+
+    // Their bytes, length fields included.
+    pub filler_bytes: usize,
+
+    // Where the step ends.
     pub next: Next,
 }
 
@@ -63,19 +77,19 @@ fn scan_within(s: &[u8], from: usize) -> Scan
     ensures { λ r. ⌜ r ≡ scanFrom (suc (length (now (s .entry)))) (now (s .entry)) from ⌝ }
 {
     let mut p = from;
-    let mut passed: usize = 0;
-    let mut skipped: usize = 0;
+    let mut fillers: usize = 0;
+    let mut filler_bytes: usize = 0;
     loop {
         match frame_at(s, p) {
-            Frame::Nothing => return scanned(passed, skipped, Next::End(p)),
-            Frame::Refused(e) => return scanned(passed, skipped, Next::Refused(e)),
+            Frame::Nothing => return scanned(fillers, filler_bytes, Next::End(p)),
+            Frame::Refused(e) => return scanned(fillers, filler_bytes, Next::Refused(e)),
             Frame::Whole { kind, len } => {
                 let start = p + 2;
                 let after = start + len;
                 if constants::is_filler(kind) {
                     p = after;
-                    passed = passed + 1;
-                    skipped = skipped + (2 + len);
+                    fillers = fillers + 1;
+                    filler_bytes = filler_bytes + (2 + len);
                 } else {
                     let next = Next::Record {
                         index: p,
@@ -83,19 +97,19 @@ fn scan_within(s: &[u8], from: usize) -> Scan
                         len,
                         next: after,
                     };
-                    return scanned(passed, skipped, next);
+                    return scanned(fillers, filler_bytes, next);
                 }
             }
         }
     }
 }
 
-fn scanned(passed: usize, skipped: usize, next: Next) -> Scan
-    ensures { λ r. ⌜ r ≡ record { passed = passed; skipped = skipped; next = next } ⌝ }
+fn scanned(fillers: usize, filler_bytes: usize, next: Next) -> Scan
+    ensures { λ r. ⌜ r ≡ record { fillers = fillers; «filler_bytes» = «filler_bytes»; next = next } ⌝ }
 {
     Scan {
-        passed,
-        skipped,
+        fillers,
+        filler_bytes,
         next,
     }
 }

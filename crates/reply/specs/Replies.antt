@@ -46,7 +46,7 @@ entryReply (refused e) = refuses e
 
 -- Check: records yielded and their bytes, records passed over and theirs, openers, deepest nesting
 abbrev pub checkReply : Checked → Reply
-checkReply (C.Good n) = answers (n .records ∷ n .bytes ∷ n .passed ∷ n .skipped ∷ n .openers ∷ n .deepest ∷ [])
+checkReply (C.Good n) = answers (n .records ∷ n .bytes ∷ n .fillers ∷ n .«filler_bytes» ∷ n .openers ∷ n .deepest ∷ [])
 checkReply (C.Refused e) = refuses e
 
 -- Walk and jump with the number of records read, climb with that of links

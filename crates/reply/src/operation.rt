@@ -75,8 +75,8 @@ pub fn reply_check(answer: Checked, out: &mut [u64; 6]) -> u32
                 out,
                 n.records as u64,
                 n.bytes as u64,
-                n.passed as u64,
-                n.skipped as u64,
+                n.fillers as u64,
+                n.filler_bytes as u64,
                 n.openers as u64,
                 n.deepest as u64,
             );
