@@ -1,9 +1,10 @@
-// What the nesting check does at one record, and the innermost of the open scopes: the loop of crate check_nesting does as it says.
+// What the nesting check does at one record: the loop of crate check_nesting does as it says.
 ghost use mathlib.Core.Path.{_≡_};
 ghost use Rattle.constants.specs.declared.Role.the-variants.{Opens};
 ghost use Rattle.constants.specs.Raw.{nestingRoleOf};
 ghost use Rattle.links.specs.Links.{linksOf};
 ghost use Rattle.check_nesting.specs.Act.{topAt, actOf, openOf};
+use super::stack::innermost;
 use common::Refusal;
 use constants::Role;
 use links::Links;
@@ -25,7 +26,13 @@ pub enum Act {
 
 // The act at a record, with so many openers open and their indexes and end fields. The innermost is looked at only where the record
 // opens or closes a scope.
-pub fn act_at(rec: &[u8], index: usize, opens: &[u32; 64], ends: &[u32; 64], depth: usize) -> Act
+pub fn act_at<'a>(
+    rec: &[u8],
+    index: usize,
+    opens: &'a [u32; 64],
+    ends: &'a [u32; 64],
+    depth: usize,
+) -> Act
     ensures { λ r. ⌜ r ≡ actOf (now (rec .entry)) index depth (topAt (now (opens .entry)) depth) (topAt (now (ends .entry)) depth) ⌝ }
 {
     match constants::kind::nesting_role(rec) {
@@ -62,18 +69,4 @@ fn open_at(rec: &[u8], index: usize, depth: usize, inner: u32) -> Act
             return Act::Push(end);
         }
     }
-}
-
-// The last of the first so many places, 0 if none.
-pub fn innermost(at: &[u32; 64], depth: usize) -> u32
-    ensures { λ r. ⌜ r ≡ topAt (now (at .entry)) depth ⌝ }
-{
-    if depth == 0 {
-        return 0;
-    }
-    let last = depth - 1;
-    if 64 <= last {
-        return 0;
-    }
-    at[last]
 }

@@ -1,17 +1,15 @@
 // The nesting check: whether the links of a stream's openers say how its records lie in one another, and what it holds.
-//
-// The stack of open openers is the chain of their indexes, and their end fields in the same places of an array, both changed in place.
 pub mod act;
+pub mod stack;
 
 ghost use mathlib.Core.Path.{_≡_};
-ghost use Prim.Native.Nat.{_+_, _-_, _<_, _≤_, _^_};
-ghost use lib.ListN.{set};
+ghost use Prim.Native.Nat.{_+_, _<_, _^_};
 ghost use Rattle.check_nesting.specs.Check.{countedOf, openedOf, noCounts, endOf, checkOf, addsUp};
 use act::Act;
-use chain::Chain;
 use common::Refusal;
 use iter::Next;
 use iter::Scan;
+use stack::Stack;
 
 // What a stream holds, from the start that is checked on.
 pub struct Counts {
@@ -107,34 +105,20 @@ fn at_end(n: Counts, c: Scan, depth: usize, inner: u32) -> Checked
     Checked::Refused(Refusal::at(Refusal::LEFT_OPEN, inner as usize))
 }
 
-// Frees the place of the innermost opener; how many are open then.
-fn pop(opens: &mut [u32; 64], ends: &mut [u32; 64], depth: usize) -> usize
-    requires { ⌜ 0 < depth ⌝ }
-    requires { ⌜ depth ≤ 64 ⌝ }
-    ensures { λ r. ⌜ r ≡ depth - 1 ⌝ }
-    ensures { λ r. ⌜ now (opens .exit) ≡ set (now (opens .entry)) (depth - 1) 0 ⌝ }
-    ensures { λ r. ⌜ now (ends .exit) ≡ set (now (ends .entry)) (depth - 1) 0 ⌝ }
-{
-    let last = depth - 1;
-    opens[last] = 0;
-    ends[last] = 0;
-    last
-}
-
+// Whether the stream nests from the start on.
 pub fn check(s: &[u8], start: usize) -> Checked
     ensures { λ r. ⌜ r ≡ checkOf (now (s .entry)) start ⌝ }
     ensures { λ r. ⌜ addsUp r (now (s .entry)) start ⌝ }
 {
-    let mut opens = Chain::new();
-    let mut ends = [0u32; 64];
+    let mut stack = Stack::new();
     let mut n = no_counts();
     let mut at = start;
     loop {
         let c = iter::scan_at(s, at);
         let found = c.next;
-        let depth = opens.depth;
+        let depth = stack.opens.depth;
         match found {
-            Next::End(_) => return at_end(n, c, depth, act::innermost(&opens.at, depth)),
+            Next::End(_) => return at_end(n, c, depth, stack::innermost(&stack.opens.at, depth)),
             Next::Refused(e) => return Checked::Refused(e),
             Next::Record {
                 index,
@@ -144,15 +128,17 @@ pub fn check(s: &[u8], start: usize) -> Checked
             } => {
                 n = counted(n, c, len);
                 at = next;
-                match act::act_at(&s[from..next], index, &opens.at, &ends, depth) {
+                match act::act_at(&s[from..next], index, &stack.opens.at, &stack.ends, depth) {
                     Act::Stay => {}
                     Act::Push(end) => {
-                        opens.at[depth] = index as u32;
-                        opens.depth = depth + 1;
-                        ends[depth] = end;
+                        stack.opens.depth = stack::push(&mut stack.opens.at, depth, index as u32);
+                        stack.ends[depth] = end;
                         n = opened(n, depth);
                     }
-                    Act::Pop => opens.depth = pop(&mut opens.at, &mut ends, depth),
+                    Act::Pop => {
+                        stack.opens.depth = stack::pop(&mut stack.opens.at, depth);
+                        stack.ends[depth - 1] = 0;
+                    }
                     Act::Refused(e) => return Checked::Refused(e),
                 }
             }

@@ -1,10 +1,10 @@
--- `check_nesting::act::innermost` meets its contract.
+-- `check_nesting::stack::innermost` meets its contract.
 -- Assumes nothing.
 use borrow.Author.Needs.{needs}
 use borrow.Author.Tests.{eq-eqb, ne-eqb, le-leb, lt-leb}
 use Rattle.chain.specs.Chain.{topOf}
-use Rattle.check_nesting.proofs.act.innermost.Statement.{statement}
-use Rattle.check_nesting.proofs.act.innermost.Tie as tie
+use Rattle.check_nesting.proofs.stack.innermost.Statement.{statement}
+use Rattle.check_nesting.proofs.stack.innermost.Tie as tie
 
 returns : tie.Need-returns
 unfolding topOf
