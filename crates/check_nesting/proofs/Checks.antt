@@ -18,7 +18,7 @@ use Rattle.iter.proofs.Reading.{Stepped, step-fits, read-by, Fillers, fillers-o
 use Rattle.iter.proofs.Records.{bytes-length, fillers-to}
 use Rattle.chain.specs.Chain.{chainOf, topOf}
 use Rattle.chain.specs.declared.Chain.{Chain}
-use Rattle.chain.proofs.Laws.{pushed, popped, stack-depth, push-stack, pop-stack, length-tail, top-stack, top-none}
+use Rattle.chain.proofs.Laws.{pushed, popped, stack-depth, push-stack, pop-stack, length-tail, top, top-stack, top-none}
 use Rattle.check_nesting.specs.declared.act.Act.{Act}
 use Rattle.check_nesting.specs.declared.act.Act.the-variants as A
 use Rattle.check_nesting.specs.Act.{actOf}
@@ -41,8 +41,8 @@ module _ (field : Open → ℕ) where
   tail-each [] = refl
   tail-each (o ∷ st) = refl
 
-  top-each : (o : Open) (st : List Open) → length (o ∷ st) ≤ 64 → topOf (chainOf (each (o ∷ st))) ≡ field o
-  top-each o st h = top-stack (each st) (field o) (omega (arith, length-each st))
+  top-each : (o : Open) (st : List Open) → top (chainOf (each (o ∷ st))) ≡ field o
+  top-each o st = top-stack (each st) (field o)
 
 -- the indexes and the end fields of a stack
 abbrev pub indexes : List Open → List ℕ
@@ -51,13 +51,13 @@ indexes = each (λ o. o .index)
 abbrev pub ends : List Open → List ℕ
 ends = each (λ o. o .end)
 
-top-index : (st : List Open) → length st ≤ 64 → topOf (chainOf (indexes st)) ≡ innerIndex st
-top-index [] h = top-none
-top-index (o ∷ st) h = top-each (λ x. x .index) o st h
+top-index : (st : List Open) → top (chainOf (indexes st)) ≡ innerIndex st
+top-index [] = top-none
+top-index (o ∷ st) = top-each (λ x. x .index) o st
 
-top-end : (st : List Open) → length st ≤ 64 → topOf (chainOf (ends st)) ≡ innerEnd st
-top-end [] h = top-none
-top-end (o ∷ st) h = top-each (λ x. x .end) o st h
+top-end : (st : List Open) → top (chainOf (ends st)) ≡ innerEnd st
+top-end [] = top-none
+top-end (o ∷ st) = top-each (λ x. x .end) o st
 
 -- what is known of a scan, in numbers
 pub record Scanned (s : List ℕ) (at : ℕ) (c : Scan) : Type 0 where
@@ -138,14 +138,14 @@ module _ {s : List ℕ} {start : ℕ} {opens : Chain} {ends-of : List ℕ} {n : 
   pub depth-most : opens .depth ≤ 64
   depth-most = omega (arith, depth, t .inv .most)
 
-  inner : topOf opens ≡ innerIndex (t .inv .stack)
-  inner = ap topOf (t .inv .is-opens) ∙ top-index (t .inv .stack) (t .inv .most)
+  inner : topOf (opens .at) (opens .depth) ≡ innerIndex (t .inv .stack)
+  inner = ap top (t .inv .is-opens) ∙ top-index (t .inv .stack)
 
-  inner-end : topOf (record { at = ends-of; depth = opens .depth }) ≡ innerEnd (t .inv .stack)
-  inner-end = ap topOf (t .inv .is-ends) ∙ top-end (t .inv .stack) (t .inv .most)
+  inner-end : topOf ends-of (opens .depth) ≡ innerEnd (t .inv .stack)
+  inner-end = ap top (t .inv .is-ends) ∙ top-end (t .inv .stack)
 
   same-act : (bytes : List ℕ) (index : ℕ) →
-      actOf bytes index (opens .depth) (topOf opens) (topOf (record { at = ends-of; depth = opens .depth }))
+      actOf bytes index (opens .depth) (topOf (opens .at) (opens .depth)) (topOf ends-of (opens .depth))
       ≡ actOf bytes index (length (t .inv .stack)) (innerIndex (t .inv .stack)) (innerEnd (t .inv .stack))
   same-act bytes index = rw (inner, inner-end, depth)
 
@@ -163,7 +163,7 @@ module _ {s : List ℕ} {start : ℕ} {opens : Chain} {ends-of : List ℕ} {n : 
   pub at-refused : {x : Refusal} → c .next ≡ N.Refused x → C.Refused x ≡ checkOf s start
   at-refused {x} e = last (N.Refused x) e (reading (N.Refused x) e)
 
-  pub at-end : {p : ℕ} → c .next ≡ N.End p → endOf n (c .fillers) (c .«filler_bytes») (opens .depth) (topOf opens) ≡ checkOf s start
+  pub at-end : {p : ℕ} → c .next ≡ N.End p → endOf n (c .fillers) (c .«filler_bytes») (opens .depth) (topOf (opens .at) (opens .depth)) ≡ checkOf s start
   at-end {p} e = rw (inner, depth) (last (N.End p) e (reading (N.End p) e))
 
 module _ {s : List ℕ} {start : ℕ} {opens : Chain} {ends-of : List ℕ} {n : Counts} {at : ℕ} {c : Scan} {index from len next : ℕ}
@@ -176,7 +176,7 @@ module _ {s : List ℕ} {start : ℕ} {opens : Chain} {ends-of : List ℕ} {n : 
 
   -- what is done with the record
   abbrev pub act : Act
-  act = actOf (take len (drop from s)) index (opens .depth) (topOf opens) (topOf (record { at = ends-of; depth = opens .depth }))
+  act = actOf (take len (drop from s)) index (opens .depth) (topOf (opens .at) (opens .depth)) (topOf ends-of (opens .depth))
 
   pub found : Found s at c index from len next
   found = found-bounds s at c index from len next (y .turn .scan) (y .yields)

@@ -6,17 +6,12 @@ use lib.Dec.{leb, eqb}
 use Rattle.common.specs.Reader.{refusal}
 use Rattle.constants.specs.declared.Role.{Role}
 use Rattle.constants.specs.declared.Role.the-variants.{Neither, Opens, Closes}
-use Rattle.chain.specs.Chain.{topOf}
 use Rattle.constants.specs.Raw.{nestingRoleOf}
 use Rattle.links.specs.Links.{linksOf}
 use Rattle.links.specs.declared.Links.{Links}
 use Rattle.links.specs.declared.Links.the-variants as K
 use Rattle.check_nesting.specs.declared.act.Act.{Act}
 use Rattle.check_nesting.specs.declared.act.Act.the-variants as A
-
--- the last of so many places, which is the innermost's; 0 if none
-abbrev pub topAt : List ℕ → ℕ → ℕ
-topAt at depth = topOf (record { at = at; depth = depth })
 
 -- Opener: 6 if decode refuses it, 7 at position 0, 8 if its parent field is not the innermost open index (0 if none), 9 if it would be the 65th.
 -- These carry the record's index.

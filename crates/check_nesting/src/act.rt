@@ -1,9 +1,11 @@
 // What the nesting check does at one record: the loop of crate check_nesting does as it says.
 ghost use mathlib.Core.Path.{_≡_};
+ghost use Prim.Native.Nat.{_≤_};
+ghost use Rattle.chain.specs.Chain.{topOf};
 ghost use Rattle.constants.specs.declared.Role.the-variants.{Opens};
 ghost use Rattle.constants.specs.Raw.{nestingRoleOf};
 ghost use Rattle.links.specs.Links.{linksOf};
-ghost use Rattle.check_nesting.specs.Act.{topAt, actOf, openOf};
+ghost use Rattle.check_nesting.specs.Act.{actOf, openOf};
 use super::stack::innermost;
 use common::Refusal;
 use constants::Role;
@@ -33,7 +35,8 @@ pub fn act_at<'a>(
     ends: &'a [u32; 64],
     depth: usize,
 ) -> Act
-    ensures { λ r. ⌜ r ≡ actOf (now (rec .entry)) index depth (topAt (now (opens .entry)) depth) (topAt (now (ends .entry)) depth) ⌝ }
+    requires { ⌜ depth ≤ 64 ⌝ }
+    ensures { λ r. ⌜ r ≡ actOf (now (rec .entry)) index depth (topOf (now (opens .entry)) depth) (topOf (now (ends .entry)) depth) ⌝ }
 {
     match constants::kind::nesting_role(rec) {
         Role::Opens => return open_at(rec, index, depth, innermost(opens, depth)),

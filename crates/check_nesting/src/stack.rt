@@ -3,8 +3,7 @@ ghost use mathlib.Core.Path.{_≡_};
 ghost use mathlib.Core.List.{[]};
 ghost use Prim.Native.Nat.{_+_, _-_, _<_, _≤_};
 ghost use lib.ListN.{set, replicate};
-ghost use Rattle.chain.specs.Chain.{chainOf};
-ghost use Rattle.check_nesting.specs.Act.{topAt};
+ghost use Rattle.chain.specs.Chain.{chainOf, topOf};
 use chain::Chain;
 
 // The open openers, the innermost last.
@@ -51,16 +50,13 @@ pub fn pop(at: &mut [u32; 64], depth: usize) -> usize
     last
 }
 
-// The last of the first so many places, 0 if none.
+// What stands in the last of so many places, 0 if there is none.
 pub fn innermost(at: &[u32; 64], depth: usize) -> u32
-    ensures { λ r. ⌜ r ≡ topAt (now (at .entry)) depth ⌝ }
+    requires { ⌜ depth ≤ 64 ⌝ }
+    ensures { λ r. ⌜ r ≡ topOf (now (at .entry)) depth ⌝ }
 {
     if depth == 0 {
         return 0;
     }
-    let last = depth - 1;
-    if 64 <= last {
-        return 0;
-    }
-    at[last]
+    at[depth - 1]
 }

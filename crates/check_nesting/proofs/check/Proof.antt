@@ -54,6 +54,9 @@ loop-holds c =
     rw (c .no-counts .ensures)
     (checking-first _ _ _ _ (ap (λ (x : Stack). x .opens) (c .before .new .ensures)) (ap (λ (x : Stack). x .ends) (c .before .new .ensures)))
 
+innermost-requires : tie.Need-innermost-requires Inv-loop μ-loop
+innermost-requires c κs = depth-most (turnAt (c .before .before .before .before))
+
 at-end-requires : tie.Need-at-end-requires Inv-loop μ-loop
 at-end-requires c κs = omega (arith, turnAt (c .before .before .before .before .before) .inv, scanned (turnAt (c .before .before .before .before .before)))
 
@@ -74,6 +77,9 @@ part-act-at-start c = omega (arith, found (recordAt (c .before)))
 
 part-act-at-end : tie.Need-part-act-at-end Inv-loop μ-loop
 part-act-at-end c = omega (arith, found (recordAt (c .before)))
+
+act-at-requires : tie.Need-act-at-requires Inv-loop μ-loop
+act-at-requires c κs = depth-most (turnAt (c .before .before .before .before .before .before .before .before))
 
 loop-less : tie.Need-loop-less Inv-loop μ-loop
 loop-less c = omega (arith, found (recordAt (c .before .before .before .before .before .before .before .before)))
@@ -141,7 +147,7 @@ check-spec =
     loop-holds
     (λ c κs. search needs)
     (λ c. search needs)
-    (λ c κs. search needs)
+    innermost-requires
     at-end-requires
     returns
     (λ c. search needs)
@@ -151,7 +157,7 @@ check-spec =
     sub-act-at
     part-act-at-start
     part-act-at-end
-    (λ c κs. search needs)
+    act-at-requires
     (λ c. search needs)
     loop-less
     loop-again
