@@ -38,20 +38,20 @@ abbrev pub openAt : ℕ → ℕ → Open
 openAt index end = record { index = index; end = end }
 
 pub data Nest (s : List ℕ) : ℕ → List Open → Type 0 where
-  done : {p q : ℕ} → scanOf s p .next ≡ N.End q → Nest s p []
-  passes : {p index from len next : ℕ} {st : List Open} → scanOf s p .next ≡ N.Record index from len next →
+  done : {p q : ℕ} → scanOf s p .step ≡ N.End q → Nest s p []
+  passes : {p index from len next : ℕ} {st : List Open} → scanOf s p .step ≡ N.Record index from len next →
       nestingRoleOf (bytesAt s from len) ≡ Neither → Nest s next st → Nest s p st
-  opens : {p index from len next parent end : ℕ} {st : List Open} → scanOf s p .next ≡ N.Record index from len next →
+  opens : {p index from len next parent end : ℕ} {st : List Open} → scanOf s p .step ≡ N.Record index from len next →
       nestingRoleOf (bytesAt s from len) ≡ Opens → linksOf (bytesAt s from len) ≡ Read parent end →
       0 < index → parent ≡ innerIndex st → length st < 64 → Nest s next (openAt index end ∷ st) → Nest s p st
-  closes : {p index from len next : ℕ} {o : Open} {st : List Open} → scanOf s p .next ≡ N.Record index from len next →
+  closes : {p index from len next : ℕ} {o : Open} {st : List Open} → scanOf s p .step ≡ N.Record index from len next →
       nestingRoleOf (bytesAt s from len) ≡ Closes → o .end ≡ index → Nest s next st → Nest s p (o ∷ st)
 
 module _ (s : List ℕ) (u : Counts) where
   abbrev Nests : ℕ → Reading → Type 0
   Nests at r = (st : List Open) (n : Counts) → checkFrom r st n ≡ Good u → Nest s at st
 
-  module _ (at index from len next : ℕ) (e : scanOf s at .next ≡ N.Record index from len next) (ih : Nests next (readOf s next)) where
+  module _ (at index from len next : ℕ) (e : scanOf s at .step ≡ N.Record index from len next) (ih : Nests next (readOf s next)) where
     abbrev bytes : List ℕ
     bytes = bytesAt s from len
 
@@ -93,7 +93,7 @@ module _ (s : List ℕ) (u : Counts) where
     unfolding checkFrom checkOn actOf
     at-record st n h = at-role st n (nestingRoleOf bytes) refl h
 
-  at-last : (at q : ℕ) → scanOf s at .next ≡ N.End q → (st : List Open) (n : Counts) → onLast (scanOf s at) (N.End q) st n ≡ Good u → Nest s at st
+  at-last : (at q : ℕ) → scanOf s at .step ≡ N.End q → (st : List Open) (n : Counts) → onLast (scanOf s at) (N.End q) st n ≡ Good u → Nest s at st
   unfolding endOf
   at-last at q e [] n h = done e
   at-last at q e (o ∷ st) n h = absurd (refused-not-good (rw (ne-eqb (suc (length st)) 0 (omega arith)) at h))

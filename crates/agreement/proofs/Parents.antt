@@ -27,11 +27,11 @@ use Rattle.agreement.specs.Agreement.{reversed}
 use Rattle.agreement.proofs.Nest.{bytesAt}
 
 -- an opener that a step yields is found at its own index, with its parent field
-pub opener-found : (s : List ℕ) (p index from len next parent end : ℕ) → scanOf s p .next ≡ N.Record index from len next →
+pub opener-found : (s : List ℕ) (p index from len next parent end : ℕ) → scanOf s p .step ≡ N.Record index from len next →
     nestingRoleOf (bytesAt s from len) ≡ Opens → linksOf (bytesAt s from len) ≡ Read parent end → openerOf s index ≡ Parent parent
 unfolding openerOf stepOf
 opener-found s p index from len next parent end h r g =
-    ap (λ (c : Scan). openerOn s index (c .next)) (again s index from len next p h)
+    ap (λ (c : Scan). openerOn s index (c .step)) (again s index from len next p h)
     ∙ rw (eq-eqb index index refl, r, g)
 
 -- below p each open opener's parent field is the index of the next one out, which lies lower, and the outermost's is 0

@@ -42,14 +42,14 @@ pub record Skip (s : List ℕ) (i p : ℕ) (gs : List Open) (e : ℕ) (fs : List
   pub long : ℕ
   pub after : ℕ
   pub from : p ≤ e
-  pub lands : scanOf s e .next ≡ N.Record e start long after
+  pub lands : scanOf s e .step ≡ N.Record e start long after
   pub closer : nestingRoleOf (bytesAt s start long) ≡ Closes
   pub rest : Nest s after fs
   pub walked : e < i → Through (walkAt s i p (indexes gs)) (walkAt s i after (indexes fs))
 
 module _ (s : List ℕ) (i : ℕ) (o : Open) (fs : List Open) where
   -- one more record, at index, in front of what is skipped
-  more-skip : {p index from len next : ℕ} (gs hs : List Open) → scanOf s p .next ≡ N.Record index from len next →
+  more-skip : {p index from len next : ℕ} (gs hs : List Open) → scanOf s p .step ≡ N.Record index from len next →
       (index < i → walkAt s i p (indexes gs) ≡ seen (recAt s (scanOf s p) index from len) (walkAt s i next (indexes hs))) →
       Skip s i next hs (o .end) fs → Skip s i p gs (o .end) fs
   more-skip {p} {index} {from} {len} {next} gs hs h w r =
@@ -85,7 +85,7 @@ module _ (s : List ℕ) (i : ℕ) (o : Open) (fs : List Open) where
         long = len;
         after = next;
         from = omega arith;
-        lands = rw v at (ap (λ (k : Scan). k .next) (again s index from len next p h));
+        lands = rw v at (ap (λ (k : Scan). k .step) (again s index from len next p h));
         closer = r;
         rest = rw c at d;
         walked = λ l.

@@ -43,7 +43,7 @@ same-stack = ap (λ (x : Walk). x .stack)
 pub same-count : {w v : Walk} → w ≡ v → length (w .visited) ≡ length (v .visited)
 same-count = ap (λ (x : Walk). length (x .visited))
 
-module _ (s : List ℕ) (i at : ℕ) (st : List ℕ) (index from len next : ℕ) (e : scanOf s at .next ≡ N.Record index from len next) where
+module _ (s : List ℕ) (i at : ℕ) (st : List ℕ) (index from len next : ℕ) (e : scanOf s at .step ≡ N.Record index from len next) where
   abbrev r : Rec
   r = recAt s (scanOf s at) index from len
 
@@ -96,7 +96,7 @@ module _ (s : List ℕ) (i at : ℕ) (st : List ℕ) (index from len next : ℕ)
           ∙ ap (λ (b : Bool). cond b (H.Over end) (cond (leb 64 (length st)) (H.Refused (refusal 9 0 0)) H.Push)) (le-ltb end i a)
           ∙ ap (λ (b : Bool). cond b (H.Refused (refusal 9 0 0)) H.Push) (lt-leb 64 (length st) h))
 
-      pub jump-over : {start long after : ℕ} → end < i → scanOf s end .next ≡ N.Record end start long after → nestingRoleOf (bytesAt s start long) ≡ Closes →
+      pub jump-over : {start long after : ℕ} → end < i → scanOf s end .step ≡ N.Record end start long after → nestingRoleOf (bytesAt s start long) ≡ Closes →
           jumpFrom s i at st ≡ seen r (seen (yieldedAt s end) (jumpFrom s i after st))
       unfolding landOf
       jump-over {start} {long} {after} a h c =
@@ -109,14 +109,14 @@ module _ (s : List ℕ) (i at : ℕ) (st : List ℕ) (index from len next : ℕ)
               ∙ ap (λ (b : Bool). cond b (landRole (nestingRoleOf (bytesAt s start long)) after) (L.Refused (refusal 13 0 0))) (eq-eqb end end refl)
               ∙ ap (λ (x : Role). landRole x after) c
 
-pub walk-close : (s : List ℕ) (i at x : ℕ) (st : List ℕ) (index from len next : ℕ) (e : scanOf s at .next ≡ N.Record index from len next) → index < i →
+pub walk-close : (s : List ℕ) (i at x : ℕ) (st : List ℕ) (index from len next : ℕ) (e : scanOf s at .step ≡ N.Record index from len next) → index < i →
     nestingRoleOf (bytesAt s from len) ≡ Closes → walkAt s i at (x ∷ st) ≡ seen (recAt s (scanOf s at) index from len) (walkAt s i next st)
 walk-close s i at x st index from len next e l q =
     walk-turn s i at (x ∷ st) index from len next e T.Pop
     (turn-role (bytesAt s from len) (λ z. omega arith) (omega arith) q _ ∙ ap (λ (b : Bool). cond b (T.Refused (refusal 10 0 0)) T.Pop) (ne-eqb (suc (length st)) 0 (omega arith)))
 
-pub walk-end : (s : List ℕ) (i at : ℕ) (st : List ℕ) (q : ℕ) → scanOf s at .next ≡ N.End q → walkAt s i at st ≡ refusedWith (refusal 14 0 0)
+pub walk-end : (s : List ℕ) (i at : ℕ) (st : List ℕ) (q : ℕ) → scanOf s at .step ≡ N.End q → walkAt s i at st ≡ refusedWith (refusal 14 0 0)
 walk-end s i at st q e = walk-by s i at st (N.End q) e
 
-pub jump-end : (s : List ℕ) (i at : ℕ) (st : List ℕ) (q : ℕ) → scanOf s at .next ≡ N.End q → jumpFrom s i at st ≡ refusedWith (refusal 14 0 0)
+pub jump-end : (s : List ℕ) (i at : ℕ) (st : List ℕ) (q : ℕ) → scanOf s at .step ≡ N.End q → jumpFrom s i at st ≡ refusedWith (refusal 14 0 0)
 jump-end s i at st q e = jump-by s i at st (N.End q) e

@@ -77,10 +77,10 @@ pub record Found (s : List ℕ) (at : ℕ) (c : Scan) (index from len next : ℕ
   pub exact : at + c .«filler_bytes» ≡ index
   pub size : length (take len (drop from s)) ≡ len
 
-found-bounds : (s : List ℕ) (at : ℕ) (c : Scan) (index from len next : ℕ) → c ≡ scanOf s at → c .next ≡ N.Record index from len next → Found s at c index from len next
-found-bounds s at c index from len next e n = subst (λ (x : Scan). Found s at x index from len next) (sym e) (it (ap (λ (x : Scan). x .next) (sym e) ∙ n))
+found-bounds : (s : List ℕ) (at : ℕ) (c : Scan) (index from len next : ℕ) → c ≡ scanOf s at → c .step ≡ N.Record index from len next → Found s at c index from len next
+found-bounds s at c index from len next e n = subst (λ (x : Scan). Found s at x index from len next) (sym e) (it (ap (λ (x : Scan). x .step) (sym e) ∙ n))
   where
-    it : scanOf s at .next ≡ N.Record index from len next → Found s at (scanOf s at) index from len next
+    it : scanOf s at .step ≡ N.Record index from len next → Found s at (scanOf s at) index from len next
     it q =
         record {
           stepped = step-fits s at index from len next q;
@@ -129,7 +129,7 @@ pub record Turn (s : List ℕ) (start : ℕ) (opens : Chain) (ends-of : List ℕ
 
 pub record Yields (s : List ℕ) (start : ℕ) (opens : Chain) (ends-of : List ℕ) (n : Counts) (at : ℕ) (c : Scan) (index from len next : ℕ) : Type 0 where
   pub turn : Turn s start opens ends-of n at c
-  pub yields : c .next ≡ N.Record index from len next
+  pub yields : c .step ≡ N.Record index from len next
 
 module _ {s : List ℕ} {start : ℕ} {opens : Chain} {ends-of : List ℕ} {n : Counts} {at : ℕ} {c : Scan} (t : Turn s start opens ends-of n at c) where
   depth : opens .depth ≡ length (t .inv .stack)
@@ -153,17 +153,17 @@ module _ {s : List ℕ} {start : ℕ} {opens : Chain} {ends-of : List ℕ} {n : 
   scanned = scan-bounds s at c (t .scan)
 
   -- the reading from here, by what the step says
-  reading : (m : Next) → c .next ≡ m → readOf s at ≡ onNext s c m (λ q. readOf s q)
-  reading m e = subst (λ (x : Scan). x .next ≡ m → readOf s at ≡ onNext s x m (λ q. readOf s q)) (sym (t .scan)) (read-by s at m) e
+  reading : (m : Next) → c .step ≡ m → readOf s at ≡ onNext s c m (λ q. readOf s q)
+  reading m e = subst (λ (x : Scan). x .step ≡ m → readOf s at ≡ onNext s x m (λ q. readOf s q)) (sym (t .scan)) (read-by s at m) e
 
-  last : (m : Next) → c .next ≡ m → readOf s at ≡ ended c → onLast c m (t .inv .stack) n ≡ checkOf s start
+  last : (m : Next) → c .step ≡ m → readOf s at ≡ ended c → onLast c m (t .inv .stack) n ≡ checkOf s start
   unfolding checkFrom checkOn
   last m em er = ap (λ (x : Next). onLast c x (t .inv .stack) n) (sym em) ∙ ap (λ (x : Reading). checkFrom x (t .inv .stack) n) (sym er) ∙ t .inv .same
 
-  pub at-refused : {x : Refusal} → c .next ≡ N.Refused x → C.Refused x ≡ checkOf s start
+  pub at-refused : {x : Refusal} → c .step ≡ N.Refused x → C.Refused x ≡ checkOf s start
   at-refused {x} e = last (N.Refused x) e (reading (N.Refused x) e)
 
-  pub at-end : {p : ℕ} → c .next ≡ N.End p → endOf n (c .fillers) (c .«filler_bytes») (opens .depth) (topOf (opens .at) (opens .depth)) ≡ checkOf s start
+  pub at-end : {p : ℕ} → c .step ≡ N.End p → endOf n (c .fillers) (c .«filler_bytes») (opens .depth) (topOf (opens .at) (opens .depth)) ≡ checkOf s start
   at-end {p} e = rw (inner, depth) (last (N.End p) e (reading (N.End p) e))
 
 module _ {s : List ℕ} {start : ℕ} {opens : Chain} {ends-of : List ℕ} {n : Counts} {at : ℕ} {c : Scan} {index from len next : ℕ}

@@ -31,7 +31,7 @@ module _ (last : Scan) (m : Counts) where
   -- a check that passes: what was counted and what is left make the sums of the answer, and the last step does not refuse
   record Sums (rs : List Rec) (n : Counts) : Type 0 where
     total : n .bytes + n .«filler_bytes» + (bytesOfRecords rs + last .«filler_bytes») ≡ m .bytes + m .«filler_bytes»
-    passes : (e : Refusal) → last .next ≡ N.Refused e → ⊥
+    passes : (e : Refusal) → last .step ≡ N.Refused e → ⊥
 
   end-total : (n : Counts) (fillers depth inner : ℕ) → endOf n fillers (last .«filler_bytes») depth inner ≡ C.Good m → n .bytes + n .«filler_bytes» + (0 + last .«filler_bytes») ≡ m .bytes + m .«filler_bytes»
   unfolding endOf
@@ -48,7 +48,7 @@ module _ (last : Scan) (m : Counts) where
       by true g = let q : n .bytes + (n .«filler_bytes» + last .«filler_bytes») ≡ m .bytes + m .«filler_bytes» = ap sumOf g in omega arith
       by false g = absurd (refused-not-good g)
 
-  last-sums : (x : Next) → last .next ≡ x → (st : List Open) (n : Counts) → onLast last x st n ≡ C.Good m → Sums [] n
+  last-sums : (x : Next) → last .step ≡ x → (st : List Open) (n : Counts) → onLast last x st n ≡ C.Good m → Sums [] n
   last-sums (N.End p) q st n g =
       record { total = end-total n _ _ _ g; passes = λ e h. absurd (let z : _≡_ {A = ℕ} 0 1 = cc in omega arith) }
   last-sums (N.Refused e) q st n g = absurd (refused-not-good g)
@@ -67,7 +67,7 @@ module _ (last : Scan) (m : Counts) where
 
   sums-on : (rs : List Rec) (st : List Open) (n : Counts) → checkOn last rs st n ≡ C.Good m → Sums rs n
   unfolding checkOn
-  sums-on [] st n g = last-sums (last .next) refl st n g
+  sums-on [] st n g = last-sums (last .step) refl st n g
   sums-on (r ∷ rs) st n g = act-sums r rs (sums-on rs) st n (actOf (r .bytes) (r .index) (length st) (innerIndex st) (innerEnd st)) g
 
 pub sums : (s : List ℕ) (start : ℕ) (r : Checked) → r ≡ checkOf s start → addsUp r s start

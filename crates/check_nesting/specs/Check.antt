@@ -92,7 +92,7 @@ onLast c (N.Record index start len next) st n = endOf n (c .fillers) (c .«fille
 
 -- the check of the records that are left, and of the last step
 unfoldable pub checkOn : Scan → List Rec → List Open → Counts → Checked
-checkOn last [] st n = onLast last (last .next) st n
+checkOn last [] st n = onLast last (last .step) st n
 checkOn last (r ∷ rs) st n =
     onAct r st n (actOf (r .bytes) (r .index) (length st) (innerIndex st) (innerEnd st)) (λ st' n'. checkOn last rs st' n')
 

@@ -115,7 +115,7 @@ pub fn check(s: &[u8], start: usize) -> Checked
     let mut at = start;
     loop {
         let c = iter::scan_at(s, at);
-        let found = c.next;
+        let found = c.step;
         let depth = stack.opens.depth;
         match found {
             Next::End(_) => return at_end(n, c, depth, stack::innermost(&stack.opens.at, depth)),

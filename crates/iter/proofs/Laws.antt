@@ -49,7 +49,7 @@ pub record Comes (s : List ℕ) (r : Scan) (p fillers fillerBytes : ℕ) : Type 
   pub within : p ≤ length s
   pub fuel : ℕ
   pub enough : length s < p + fuel
-  pub nexts : scanFrom fuel s p .next ≡ r .next
+  pub nexts : scanFrom fuel s p .step ≡ r .step
   pub counts : scanFrom fuel s p .fillers + fillers ≡ r .fillers
   pub sizes : scanFrom fuel s p .«filler_bytes» + fillerBytes ≡ r .«filler_bytes»
   pub few : fillers ≤ p
@@ -59,7 +59,7 @@ pub record Comes (s : List ℕ) (r : Scan) (p fillers fillerBytes : ℕ) : Type 
 record Turn (s : List ℕ) (r : Scan) (p fillers fillerBytes : ℕ) : Type 0 where
   fuel : ℕ
   enough : length s ≤ p + fuel
-  nexts : onFrame p (frameAt s p) (λ q. scanFrom fuel s q) .next ≡ r .next
+  nexts : onFrame p (frameAt s p) (λ q. scanFrom fuel s q) .step ≡ r .step
   counts : onFrame p (frameAt s p) (λ q. scanFrom fuel s q) .fillers + fillers ≡ r .fillers
   sizes : onFrame p (frameAt s p) (λ q. scanFrom fuel s q) .«filler_bytes» + fillerBytes ≡ r .«filler_bytes»
 
@@ -68,28 +68,28 @@ module _ (s : List ℕ) (r : Scan) (p fillers fillerBytes : ℕ) (h : Comes s r 
   unfolding scanFrom
   turn = go (h .fuel) (h .enough) (h .nexts) (h .counts) (h .sizes)
     where
-      go : (k : ℕ) → length s < p + k → scanFrom k s p .next ≡ r .next → scanFrom k s p .fillers + fillers ≡ r .fillers →
+      go : (k : ℕ) → length s < p + k → scanFrom k s p .step ≡ r .step → scanFrom k s p .fillers + fillers ≡ r .fillers →
           scanFrom k s p .«filler_bytes» + fillerBytes ≡ r .«filler_bytes» → Turn s r p fillers fillerBytes
       go zero l en ec es = absurd (omega (arith, h .within))
       go (suc k) l en ec es = record { fuel = k; enough = omega arith; nexts = en; counts = ec; sizes = es }
 
   -- the answer, where the frame ends the step with n
-  pub ends : (f : Frame) (n : Next) → frameAt s p ≡ f → ((on : ℕ → Scan) → onFrame p f on ≡ plain n) → record { fillers = fillers; «filler_bytes» = fillerBytes; next = n } ≡ r
+  pub ends : (f : Frame) (n : Next) → frameAt s p ≡ f → ((on : ℕ → Scan) → onFrame p f on ≡ plain n) → record { fillers = fillers; «filler_bytes» = fillerBytes; step = n } ≡ r
   ends f n e is =
       let x = ap (λ (g : Frame). onFrame p g (λ q. scanFrom (turn .fuel) s q)) e ∙ is (λ q. scanFrom (turn .fuel) s q) in
       let a : fillers ≡ r .fillers = sym (zero-add fillers) ∙ (rw x at (turn .counts)) in
       let b : fillerBytes ≡ r .«filler_bytes» = sym (zero-add fillerBytes) ∙ (rw x at (turn .sizes)) in
-      let d : n ≡ r .next = rw x at (turn .nexts) in
-      λ i. record { fillers = a i; «filler_bytes» = b i; next = d i }
+      let d : n ≡ r .step = rw x at (turn .nexts) in
+      λ i. record { fillers = a i; «filler_bytes» = b i; step = d i }
 
-  pub at-nothing : frameAt s p ≡ F.Nothing → record { fillers = fillers; «filler_bytes» = fillerBytes; next = End p } ≡ r
+  pub at-nothing : frameAt s p ≡ F.Nothing → record { fillers = fillers; «filler_bytes» = fillerBytes; step = End p } ≡ r
   at-nothing e = ends F.Nothing (End p) e (λ on. refl)
 
-  pub at-refused : (x : Refusal) → frameAt s p ≡ F.Refused x → record { fillers = fillers; «filler_bytes» = fillerBytes; next = Refused x } ≡ r
+  pub at-refused : (x : Refusal) → frameAt s p ≡ F.Refused x → record { fillers = fillers; «filler_bytes» = fillerBytes; step = Refused x } ≡ r
   at-refused x e = ends (F.Refused x) (Refused x) e (λ on. refl)
 
   pub at-record : (kind len : ℕ) → frameAt s p ≡ F.Whole kind len → isFiller kind ≡ false →
-      record { fillers = fillers; «filler_bytes» = fillerBytes; next = Record p (p + 2) len (p + 2 + len) } ≡ r
+      record { fillers = fillers; «filler_bytes» = fillerBytes; step = Record p (p + 2) len (p + 2 + len) } ≡ r
   at-record kind len e f = ends (F.Whole kind len) (Record p (p + 2) len (p + 2 + len)) e (λ on. ap (λ (b : Bool). onKind b p len on) f)
 
   pub at-filler : (kind len : ℕ) → frameAt s p ≡ F.Whole kind len → isFiller kind ≡ true → Comes s r (p + 2 + len) (fillers + 1) (fillerBytes + (2 + len))

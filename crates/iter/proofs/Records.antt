@@ -30,13 +30,13 @@ record Own (s : List ℕ) (index start len next : ℕ) : Type 0 where
 module _ (s : List ℕ) (index start len next : ℕ) where
   own-frame :
       (p k : ℕ) →
-      ((q : ℕ) → scanFrom k s q .next ≡ Record index start len next → Own s index start len next) →
-      (f : Frame) → frameAt s p ≡ f → onFrame p f (λ q. scanFrom k s q) .next ≡ Record index start len next → Own s index start len next
+      ((q : ℕ) → scanFrom k s q .step ≡ Record index start len next → Own s index start len next) →
+      (f : Frame) → frameAt s p ≡ f → onFrame p f (λ q. scanFrom k s q) .step ≡ Record index start len next → Own s index start len next
   own-frame p k ih F.Nothing ef e = absurd (let z : _≡_ {A = ℕ} 0 1 = cc in omega arith)
   own-frame p k ih (F.Refused r) ef e = absurd (let z : _≡_ {A = ℕ} 0 1 = cc in omega arith)
   own-frame p k ih (F.Whole kind l) ef e = go (isFiller kind) refl e
     where
-      go : (b : Bool) → isFiller kind ≡ b → onKind b p l (λ q. scanFrom k s q) .next ≡ Record index start len next → Own s index start len next
+      go : (b : Bool) → isFiller kind ≡ b → onKind b p l (λ q. scanFrom k s q) .step ≡ Record index start len next → Own s index start len next
       go true eb e' = ih (p + 2 + l) e'
       go false eb e' =
           let e1 : p ≡ index = cc in
@@ -45,21 +45,21 @@ module _ (s : List ℕ) (index start len next : ℕ) where
           let e4 : p + 2 + l ≡ next = cc in
           record { kind = kind; frame = ap (frameAt s) (sym e1) ∙ ef ∙ ap (F.Whole kind) e3; kept = eb; starts = omega arith; ends = omega arith }
 
-  own-from : (k p : ℕ) → scanFrom k s p .next ≡ Record index start len next → Own s index start len next
+  own-from : (k p : ℕ) → scanFrom k s p .step ≡ Record index start len next → Own s index start len next
   unfolding scanFrom
   own-from zero p e = absurd (let z : _≡_ {A = ℕ} 0 1 = cc in omega arith)
   own-from (suc k) p e = own-frame p k (own-from k) (frameAt s p) refl e
 
-  own : (at : ℕ) → scanOf s at .next ≡ Record index start len next → Own s index start len next
+  own : (at : ℕ) → scanOf s at .step ≡ Record index start len next → Own s index start len next
   unfolding scanOf
   own at = go (ltb 4294967295 (length s))
     where
-      go : (b : Bool) → cond b (plain (Refused (refusal 5 0 0))) (scanFrom (suc (length s)) s (within s at)) .next ≡ Record index start len next → Own s index start len next
+      go : (b : Bool) → cond b (plain (Refused (refusal 5 0 0))) (scanFrom (suc (length s)) s (within s at)) .step ≡ Record index start len next → Own s index start len next
       go true e = absurd (let z : _≡_ {A = ℕ} 0 1 = cc in omega arith)
       go false e = own-from (suc (length s)) (within s at) e
 
   -- a step from a yielded record's own index yields that record, and passes nothing over
-  pub again : (at : ℕ) → scanOf s at .next ≡ Record index start len next → scanOf s index ≡ plain (Record index start len next)
+  pub again : (at : ℕ) → scanOf s at .step ≡ Record index start len next → scanOf s index ≡ plain (Record index start len next)
   unfolding scanOf scanFrom
   again at e =
       let y = step-fits s at index start len next e in
@@ -71,14 +71,14 @@ module _ (s : List ℕ) (index start len next : ℕ) where
 -- what is shown of every reading by what its first step says: nothing is left, a refusal, or a record and the reading from its next position
 pub read-ind :
     (s : List ℕ) (P : ℕ → Reading → Type 0) →
-    ((at q : ℕ) → scanOf s at .next ≡ End q → P at (ended (scanOf s at))) →
-    ((at : ℕ) (e : Refusal) → scanOf s at .next ≡ Refused e → P at (ended (scanOf s at))) →
-    ((at index start len next : ℕ) → scanOf s at .next ≡ Record index start len next → P next (readOf s next) →
+    ((at q : ℕ) → scanOf s at .step ≡ End q → P at (ended (scanOf s at))) →
+    ((at : ℕ) (e : Refusal) → scanOf s at .step ≡ Refused e → P at (ended (scanOf s at))) →
+    ((at index start len next : ℕ) → scanOf s at .step ≡ Record index start len next → P next (readOf s next) →
     P at (more (recAt s (scanOf s at) index start len) (readOf s next))) →
     (at : ℕ) → P at (readOf s at)
 read-ind s P ends refuses goes at = by (suc (length s)) at (omega arith)
   where
-    step : (at : ℕ) → ((q : ℕ) → at < q → q ≤ length s → P q (readOf s q)) → (n : Next) → scanOf s at .next ≡ n → P at (readOf s at)
+    step : (at : ℕ) → ((q : ℕ) → at < q → q ≤ length s → P q (readOf s q)) → (n : Next) → scanOf s at .step ≡ n → P at (readOf s at)
     step at ih (End q) e = subst (P at) (sym (read-by s at (End q) e)) (ends at q e)
     step at ih (Refused x) e = subst (P at) (sym (read-by s at (Refused x) e)) (refuses at x e)
     step at ih (Record index start len next) e =
@@ -86,17 +86,17 @@ read-ind s P ends refuses goes at = by (suc (length s)) at (omega arith)
         subst (P at) (sym (read-by s at (Record index start len next) e)) (goes at index start len next e (ih next (omega arith) (omega arith)))
 
     by : (k at : ℕ) → length s < at + k → P at (readOf s at)
-    by zero at h = step at (λ q a b. absurd (omega arith)) (scanOf s at .next) refl
-    by (suc k) at h = step at (λ q a b. by k q (omega arith)) (scanOf s at .next) refl
+    by zero at h = step at (λ q a b. absurd (omega arith)) (scanOf s at .step) refl
+    by (suc k) at h = step at (λ q a b. by k q (omega arith)) (scanOf s at .step) refl
 
 -- the bytes of a record that a step yields
-pub bytes-length : (s : List ℕ) (at index start len next : ℕ) → scanOf s at .next ≡ Record index start len next → length (take len (drop start s)) ≡ len
+pub bytes-length : (s : List ℕ) (at index start len next : ℕ) → scanOf s at .step ≡ Record index start len next → length (take len (drop start s)) ≡ len
 bytes-length s at index start len next e =
     let y = step-fits s at index start len next e in
     simp (length-take, length-drop) (omega arith)
 
 -- a record that a step yields begins behind what the step passed over
-pub fillers-to : (s : List ℕ) (at index start len next : ℕ) → scanOf s at .next ≡ Record index start len next → at + scanOf s at .«filler_bytes» ≡ index
+pub fillers-to : (s : List ℕ) (at index start len next : ℕ) → scanOf s at .step ≡ Record index start len next → at + scanOf s at .«filler_bytes» ≡ index
 fillers-to s at index start len next e =
     let y = step-fits s at index start len next e in
     let inside : at < length s = omega (arith, y) in
@@ -126,9 +126,9 @@ abbrev pub bytesRead : Reading → ℕ
 bytesRead r = bytesOfRecords (r .recs) + r .last .«filler_bytes»
 
 -- a reading that ends at the end of the stream passes over or yields every byte from its start on
-pub adds-up : (s : List ℕ) (at : ℕ) → ((e : Refusal) → readOf s at .last .next ≡ Refused e → ⊥) → bytesRead (readOf s at) ≡ length s - at
+pub adds-up : (s : List ℕ) (at : ℕ) → ((e : Refusal) → readOf s at .last .step ≡ Refused e → ⊥) → bytesRead (readOf s at) ≡ length s - at
 adds-up s =
-    read-ind s (λ at r. ((e : Refusal) → r .last .next ≡ Refused e → ⊥) → bytesRead r ≡ length s - at)
+    read-ind s (λ at r. ((e : Refusal) → r .last .step ≡ Refused e → ⊥) → bytesRead r ≡ length s - at)
     (λ at q e d. at-end at q e)
     (λ at x e d. absurd (d x e))
     (λ at index start len next e ih d.
@@ -137,7 +137,7 @@ adds-up s =
     let i = ih d in
     omega (arith, bytes-length s at index start len next e))
   where
-    at-end : (at q : ℕ) → scanOf s at .next ≡ End q → 0 + scanOf s at .«filler_bytes» ≡ length s - at
+    at-end : (at q : ℕ) → scanOf s at .step ≡ End q → 0 + scanOf s at .«filler_bytes» ≡ length s - at
     at-end at q e = go (ltb at (length s)) refl (fillers-of s at)
       where
         go : (b : Bool) → ltb at (length s) ≡ b → Fillers s (cond b at (length s)) (scanOf s at) → 0 + scanOf s at .«filler_bytes» ≡ length s - at

@@ -36,7 +36,7 @@ onNext s c (Record index start len next) on = more (recAt s c index start len) (
 -- The reading from a position, where at most k records follow.
 unfoldable pub readFrom : ℕ → List ℕ → ℕ → Reading
 readFrom zero s at = ended (scanOf s at)
-readFrom (suc k) s at = onNext s (scanOf s at) (scanOf s at .next) (λ next. readFrom k s next)
+readFrom (suc k) s at = onNext s (scanOf s at) (scanOf s at .step) (λ next. readFrom k s next)
 
 -- The reading from a position. A record takes at least 4 bytes, so that there are no more records than bytes.
 unfoldable pub readOf : List ℕ → ℕ → Reading

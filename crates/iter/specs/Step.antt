@@ -25,10 +25,10 @@ frameAt s at =
 
 -- a step that passes nothing over, and one that passes over a filler of len bytes first
 abbrev pub plain : Next → Scan
-plain n = record { fillers = 0; «filler_bytes» = 0; next = n }
+plain n = record { fillers = 0; «filler_bytes» = 0; step = n }
 
 abbrev pub passOver : ℕ → Scan → Scan
-passOver len c = record { fillers = c .fillers + 1; «filler_bytes» = c .«filler_bytes» + (2 + len); next = c .next }
+passOver len c = record { fillers = c .fillers + 1; «filler_bytes» = c .«filler_bytes» + (2 + len); step = c .step }
 
 -- fillers are passed over and reading goes on (`on`); otherwise: index, the record's bytes, next position
 abbrev pub onKind : Bool → ℕ → ℕ → (ℕ → Scan) → Scan
@@ -56,4 +56,4 @@ scanOf s at = cond (ltb 4294967295 (length s)) (plain (Refused (refusal 5 0 0)))
 
 unfoldable pub stepOf : List ℕ → ℕ → Next
 unfolding scanOf
-stepOf s at = scanOf s at .next
+stepOf s at = scanOf s at .step

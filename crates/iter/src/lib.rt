@@ -68,7 +68,7 @@ pub struct Scan {
     pub filler_bytes: usize,
 
     // Where the step ends.
-    pub next: Next,
+    pub step: Next,
 }
 
 // The step from a position within the stream.
@@ -91,26 +91,26 @@ fn scan_within(s: &[u8], from: usize) -> Scan
                     fillers = fillers + 1;
                     filler_bytes = filler_bytes + (2 + len);
                 } else {
-                    let next = Next::Record {
+                    let step = Next::Record {
                         index: p,
                         start,
                         len,
                         next: after,
                     };
-                    return scanned(fillers, filler_bytes, next);
+                    return scanned(fillers, filler_bytes, step);
                 }
             }
         }
     }
 }
 
-fn scanned(fillers: usize, filler_bytes: usize, next: Next) -> Scan
-    ensures { λ r. ⌜ r ≡ record { fillers = fillers; «filler_bytes» = «filler_bytes»; next = next } ⌝ }
+fn scanned(fillers: usize, filler_bytes: usize, step: Next) -> Scan
+    ensures { λ r. ⌜ r ≡ record { fillers = fillers; «filler_bytes» = «filler_bytes»; step = step } ⌝ }
 {
     Scan {
         fillers,
         filler_bytes,
-        next,
+        step,
     }
 }
 
@@ -134,5 +134,5 @@ pub fn step(s: &[u8], at: usize) -> Next
     ensures { λ r. ⌜ r ≡ stepOf (now (s .entry)) at ⌝ }
 {
     let c = scan_at(s, at);
-    c.next
+    c.step
 }

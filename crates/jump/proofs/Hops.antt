@@ -69,7 +69,7 @@ pub over-room : (i index next : ℕ) (bytes : List ℕ) (d end : ℕ) → hopOf 
 over-room i index next bytes d end e = subst (λ (h : Hop). Room next d h) e (room i index next bytes d)
 
 -- where the step from an end field yields a record, by the record as the caller lends it
-pub land-record : (s : List ℕ) (end index from len next : ℕ) → scanOf s end .next ≡ N.Record index from len next →
+pub land-record : (s : List ℕ) (end index from len next : ℕ) → scanOf s end .step ≡ N.Record index from len next →
     landOf s end ≡ cond (eqb index end) (landRole (nestingRoleOf (take (next - from) (drop from s))) next) (L.Refused (refusal 13 0 0))
 unfolding landOf
 land-record s end index from len next e =
@@ -82,7 +82,7 @@ pub record Lands (s : List ℕ) (end after : ℕ) : Type 0 where
   pub after-end : end + 4 ≤ after
   pub within : after ≤ length s
 
-land-on : (s : List ℕ) (end after : ℕ) (n : Next) → scanOf s end .next ≡ n → landOn s end n ≡ L.After after → Lands s end after
+land-on : (s : List ℕ) (end after : ℕ) (n : Next) → scanOf s end .step ≡ n → landOn s end n ≡ L.After after → Lands s end after
 land-on s end after (N.End p) e q = absurd (let z : _≡_ {A = ℕ} 0 1 = cc in omega arith)
 land-on s end after (N.Refused x) e q = absurd (let z : _≡_ {A = ℕ} 0 1 = cc in omega arith)
 land-on s end after (N.Record index from len next) e q = by (eqb index end) (nestingRoleOf (take len (drop from s))) q
@@ -98,4 +98,4 @@ land-on s end after (N.Record index from len next) e q = by (eqb index end) (nes
 
 pub lands : (s : List ℕ) (end after : ℕ) → landOf s end ≡ L.After after → Lands s end after
 unfolding landOf
-lands s end after q = land-on s end after (scanOf s end .next) refl q
+lands s end after q = land-on s end after (scanOf s end .step) refl q

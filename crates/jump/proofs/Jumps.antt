@@ -42,7 +42,7 @@ module _ (s : List ℕ) (i : ℕ) (f g : ℕ → List ℕ → Walk) where
   later-hop r at next d st H.Found ro a b h = refl
   later-hop r at next d st (H.Refused e) ro a b h = refl
 
-  later-step : (at : ℕ) (n : Next) → scanOf s at .next ≡ n → ((q : ℕ) → at < q → q ≤ length s → f q ≡ g q) →
+  later-step : (at : ℕ) (n : Next) → scanOf s at .step ≡ n → ((q : ℕ) → at < q → q ≤ length s → f q ≡ g q) →
       onStep s i (scanOf s at) n f ≡ onStep s i (scanOf s at) n g
   later-step at (N.End p) e h = refl
   later-step at (N.Refused x) e h = refl
@@ -53,14 +53,14 @@ module _ (s : List ℕ) (i : ℕ) (f g : ℕ → List ℕ → Walk) where
 
 later-body : (s : List ℕ) (i at : ℕ) (f g : ℕ → List ℕ → Walk) → ((q : ℕ) → at < q → q ≤ length s → f q ≡ g q) → jumpBody s i f at ≡ jumpBody s i g at
 unfolding jumpBody
-later-body s i at f g h = later-step s i f g at (scanOf s at .next) refl h
+later-body s i at f g h = later-step s i f g at (scanOf s at .step) refl h
 
 jump-unroll : (s : List ℕ) (i at : ℕ) → jumpFrom s i at ≡ jumpBody s i (jumpFrom s i) at
 unfolding jumpFrom jumpBy
 jump-unroll s i at = unroll (length s) (λ k q. jumpBy k s i q) (jumpBody s i) (λ k q. refl) (later-body s i) at
 
 -- The search from a position, by what the step there says: no fuel is left in it.
-pub jump-by : (s : List ℕ) (i at : ℕ) (st : List ℕ) (n : Next) → scanOf s at .next ≡ n → jumpFrom s i at st ≡ onStep s i (scanOf s at) n (jumpFrom s i) st
+pub jump-by : (s : List ℕ) (i at : ℕ) (st : List ℕ) (n : Next) → scanOf s at .step ≡ n → jumpFrom s i at st ≡ onStep s i (scanOf s at) n (jumpFrom s i) st
 unfolding jumpBody
 jump-by s i at st n e = ap (λ (x : List ℕ → Walk). x st) (jump-unroll s i at) ∙ ap (λ (m : Next). onStep s i (scanOf s at) m (jumpFrom s i) st) e
 
@@ -81,7 +81,7 @@ module _ (s : List ℕ) (start i : ℕ) (chain : Chain) (at read : ℕ) (g : Jum
   unfolding stepOf
   at-refused x e = answers _ (jump-by s i at (g .stack) (N.Refused x) e)
 
-  module _ (index from len next : ℕ) (e : scanOf s at .next ≡ N.Record index from len next) where
+  module _ (index from len next : ℕ) (e : scanOf s at .step ≡ N.Record index from len next) where
     abbrev r : Rec
     r = recAt s (scanOf s at) index from len
 

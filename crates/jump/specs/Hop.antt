@@ -55,4 +55,4 @@ landOn s end (N.Record index start len next) =
     cond (eqb index end) (landRole (nestingRoleOf (take len (drop start s))) next) (L.Refused (refusal 13 0 0))
 
 unfoldable pub landOf : List ℕ → ℕ → Land
-landOf s end = landOn s end (scanOf s end .next)
+landOf s end = landOn s end (scanOf s end .step)

@@ -23,7 +23,7 @@ yielded s c (N.Refused e) = recAt s c 0 0 0
 yielded s c (N.Record index start len next) = recAt s c index start len
 
 unfoldable pub yieldedAt : List ℕ → ℕ → Rec
-yieldedAt s at = yielded s (scanOf s at) (scanOf s at .next)
+yieldedAt s at = yielded s (scanOf s at) (scanOf s at .step)
 
 -- The walk from a record, where `on` is the walk from a later position, with a stack. The closer jumped to is visited and pops nothing,
 -- and reading goes on after it.
@@ -46,7 +46,7 @@ onStep s i c (N.Record index start len next) on st =
     onHop s (recAt s c index start len) next st (hopOf i index next (take len (drop start s)) (length st)) on
 
 unfoldable pub jumpBody : List ℕ → ℕ → (ℕ → List ℕ → Walk) → ℕ → List ℕ → Walk
-jumpBody s i on at st = onStep s i (scanOf s at) (scanOf s at .next) on st
+jumpBody s i on at st = onStep s i (scanOf s at) (scanOf s at .step) on st
 
 -- The walk from a position with a stack, where at most k steps and jumps follow.
 unfoldable pub jumpBy : ℕ → List ℕ → ℕ → ℕ → List ℕ → Walk

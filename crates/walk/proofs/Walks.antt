@@ -80,7 +80,7 @@ onStep s i c (N.Record index from len next) on st =
 abbrev pub walkAt : List ℕ → ℕ → ℕ → List ℕ → Walk
 walkAt s i at st = walkFrom i (readOf s at) st
 
-pub walk-by : (s : List ℕ) (i at : ℕ) (st : List ℕ) (n : Next) → scanOf s at .next ≡ n → walkAt s i at st ≡ onStep s i (scanOf s at) n (walkAt s i) st
+pub walk-by : (s : List ℕ) (i at : ℕ) (st : List ℕ) (n : Next) → scanOf s at .step ≡ n → walkAt s i at st ≡ onStep s i (scanOf s at) n (walkAt s i) st
 unfolding walkFrom walkOn
 walk-by s i at st (N.End p) e = ap (λ (x : Reading). walkFrom i x st) (read-by s at (N.End p) e) ∙ ap walkLast e
 walk-by s i at st (N.Refused x) e = ap (λ (y : Reading). walkFrom i y st) (read-by s at (N.Refused x) e) ∙ ap walkLast e
@@ -103,7 +103,7 @@ module _ (s : List ℕ) (start i : ℕ) (chain : Chain) (at read : ℕ) (g : Wal
   unfolding stepOf
   at-refused x e = answers _ (walk-by s i at (g .stack) (N.Refused x) e)
 
-  module _ (index from len next : ℕ) (e : scanOf s at .next ≡ N.Record index from len next) where
+  module _ (index from len next : ℕ) (e : scanOf s at .step ≡ N.Record index from len next) where
     abbrev r : Rec
     r = recAt s (scanOf s at) index from len
 

@@ -50,7 +50,7 @@ walkOn i last (r ∷ rs) st = onTurn r st (turnOf i (r .index) (r .bytes) (lengt
 -- the walk over a reading, with a stack
 unfoldable pub walkFrom : ℕ → Reading → List ℕ → Walk
 unfolding walkOn
-walkFrom i reading st = walkOn i (reading .last .next) (reading .recs) st
+walkFrom i reading st = walkOn i (reading .last .step) (reading .recs) st
 
 unfoldable pub walkOf : List ℕ → ℕ → ℕ → Finding
 unfolding walkFrom

@@ -22,7 +22,7 @@ abbrev μ-loop : tie.MeasureT-loop
 
 -- the record that the step yielded
 stepped : (c : tie.After-known-told2 Inv-loop μ-loop) →
-    scanOf (c .before .before .before .before .before .before .before .args .s .now) (c .before .before .before .before .loop .at) .next
+    scanOf (c .before .before .before .before .before .before .before .args .s .now) (c .before .before .before .before .loop .at) .step
     ≡ Record (c .before .index .given .0 .0) (c .before .index .given .0 .1 .0) (c .before .index .given .0 .1 .1 .0) (c .before .index .given .0 .1 .1 .1 .0)
 unfolding stepOf
 stepped c = sym (c .before .before .before .step .ensures) ∙ c .before .index .given .1

@@ -14,7 +14,7 @@ use Rattle.jump.proofs.hop.land_at.Tie as tie
 
 -- the record that the step yielded
 stepped : (c : tie.After-known-told2) →
-    scanOf (c .before .before .before .before .before .args .s .now) (c .before .before .before .before .before .args .end) .next
+    scanOf (c .before .before .before .before .before .args .s .now) (c .before .before .before .before .before .args .end) .step
     ≡ Record (c .before .index .given .0 .0) (c .before .index .given .0 .1 .0) (c .before .index .given .0 .1 .1 .0) (c .before .index .given .0 .1 .1 .1 .0)
 unfolding stepOf
 stepped c = sym (c .before .before .before .step .ensures) ∙ c .before .index .given .1
