@@ -54,12 +54,12 @@ module _ (s : List ℕ) (P : Rec → Type 0) where
   from-end : (p q : ℕ) → scanOf s p .step ≡ N.End q → From p → ⊥
   from-end p q e b = subst (λ (r : Reading). Some P (r .recs)) (read-by s p (N.End q) e) b
 
-  module _ (p index from len next : ℕ) (e : scanOf s p .step ≡ N.Record index from len next) where
+  module _ (p index from len next : ℕ) {kind : ℕ} (e : scanOf s p .step ≡ N.Record kind index from len next) where
     from-is : From p → P (recAt s (scanOf s p) index from len) ⊎ From next
-    from-is b = subst (λ (r : Reading). Some P (r .recs)) (read-by s p (N.Record index from len next) e) b
+    from-is b = subst (λ (r : Reading). Some P (r .recs)) (read-by s p (N.Record kind index from len next) e) b
 
     from-with : P (recAt s (scanOf s p) index from len) ⊎ From next → From p
-    from-with b = subst (λ (r : Reading). Some P (r .recs)) (sym (read-by s p (N.Record index from len next) e)) b
+    from-with b = subst (λ (r : Reading). Some P (r .recs)) (sym (read-by s p (N.Record kind index from len next) e)) b
 
 module _ (s : List ℕ) (i : ℕ) where
   abbrev Is : Rec → Type 0
@@ -81,7 +81,7 @@ module _ (s : List ℕ) (i : ℕ) where
     found : Begins s p i → walk-from p st .out ≡ Answer → (OpenerBegins s p i → Climbs (walk-from p st)) → Met p st
     lost : (Begins s p i → ⊥) → walk-from p st .out ≡ Refused (refusal 14 0 0) → Met p st
 
-  module _ (p index from len next : ℕ) (st : List Open) (h : scanOf s p .step ≡ N.Record index from len next) where
+  module _ (p index from len next : ℕ) (st : List Open) {kind : ℕ} (h : scanOf s p .step ≡ N.Record kind index from len next) where
     -- the record of p's step lies before i
     past : (gs : List Open) → index < i → walk-from p st ≡ seen (recAt s (scanOf s p) index from len) (walk-from next gs) → Met next gs → Met p st
     past gs l w (found b q c) =

@@ -39,19 +39,19 @@ openAt index end = record { index = index; end = end }
 
 pub data Nest (s : List ℕ) : ℕ → List Open → Type 0 where
   done : {p q : ℕ} → scanOf s p .step ≡ N.End q → Nest s p []
-  passes : {p index from len next : ℕ} {st : List Open} → scanOf s p .step ≡ N.Record index from len next →
+  passes : {p kind index from len next : ℕ} {st : List Open} → scanOf s p .step ≡ N.Record kind index from len next →
       nestingRoleOf (bytesAt s from len) ≡ Neither → Nest s next st → Nest s p st
-  opens : {p index from len next parent end : ℕ} {st : List Open} → scanOf s p .step ≡ N.Record index from len next →
+  opens : {p kind index from len next parent end : ℕ} {st : List Open} → scanOf s p .step ≡ N.Record kind index from len next →
       nestingRoleOf (bytesAt s from len) ≡ Opens → linksOf (bytesAt s from len) ≡ Read parent end →
       0 < index → parent ≡ innerIndex st → length st < 64 → Nest s next (openAt index end ∷ st) → Nest s p st
-  closes : {p index from len next : ℕ} {o : Open} {st : List Open} → scanOf s p .step ≡ N.Record index from len next →
+  closes : {p kind index from len next : ℕ} {o : Open} {st : List Open} → scanOf s p .step ≡ N.Record kind index from len next →
       nestingRoleOf (bytesAt s from len) ≡ Closes → o .end ≡ index → Nest s next st → Nest s p (o ∷ st)
 
 module _ (s : List ℕ) (u : Counts) where
   abbrev Nests : ℕ → Reading → Type 0
   Nests at r = (st : List Open) (n : Counts) → checkFrom r st n ≡ Good u → Nest s at st
 
-  module _ (at index from len next : ℕ) (e : scanOf s at .step ≡ N.Record index from len next) (ih : Nests next (readOf s next)) where
+  module _ (at kind index from len next : ℕ) (e : scanOf s at .step ≡ N.Record kind index from len next) (ih : Nests next (readOf s next)) where
     abbrev bytes : List ℕ
     bytes = bytesAt s from len
 

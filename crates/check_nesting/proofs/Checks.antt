@@ -77,10 +77,10 @@ pub record Found (s : List ℕ) (at : ℕ) (c : Scan) (index from len next : ℕ
   pub exact : at + c .«filler_bytes» ≡ index
   pub size : length (take len (drop from s)) ≡ len
 
-found-bounds : (s : List ℕ) (at : ℕ) (c : Scan) (index from len next : ℕ) → c ≡ scanOf s at → c .step ≡ N.Record index from len next → Found s at c index from len next
-found-bounds s at c index from len next e n = subst (λ (x : Scan). Found s at x index from len next) (sym e) (it (ap (λ (x : Scan). x .step) (sym e) ∙ n))
+found-bounds : (s : List ℕ) (at : ℕ) (c : Scan) (index from len next : ℕ) {kind : ℕ} → c ≡ scanOf s at → c .step ≡ N.Record kind index from len next → Found s at c index from len next
+found-bounds s at c index from len next {kind} e n = subst (λ (x : Scan). Found s at x index from len next) (sym e) (it (ap (λ (x : Scan). x .step) (sym e) ∙ n))
   where
-    it : scanOf s at .step ≡ N.Record index from len next → Found s at (scanOf s at) index from len next
+    it : scanOf s at .step ≡ N.Record kind index from len next → Found s at (scanOf s at) index from len next
     it q =
         record {
           stepped = step-fits s at index from len next q;
@@ -127,9 +127,9 @@ pub record Turn (s : List ℕ) (start : ℕ) (opens : Chain) (ends-of : List ℕ
   pub inv : Checking s start opens ends-of n at
   pub scan : c ≡ scanOf s at
 
-pub record Yields (s : List ℕ) (start : ℕ) (opens : Chain) (ends-of : List ℕ) (n : Counts) (at : ℕ) (c : Scan) (index from len next : ℕ) : Type 0 where
+pub record Yields (s : List ℕ) (start : ℕ) (opens : Chain) (ends-of : List ℕ) (n : Counts) (at : ℕ) (c : Scan) (kind index from len next : ℕ) : Type 0 where
   pub turn : Turn s start opens ends-of n at c
-  pub yields : c .step ≡ N.Record index from len next
+  pub yields : c .step ≡ N.Record kind index from len next
 
 module _ {s : List ℕ} {start : ℕ} {opens : Chain} {ends-of : List ℕ} {n : Counts} {at : ℕ} {c : Scan} (t : Turn s start opens ends-of n at c) where
   depth : opens .depth ≡ length (t .inv .stack)
@@ -166,8 +166,8 @@ module _ {s : List ℕ} {start : ℕ} {opens : Chain} {ends-of : List ℕ} {n : 
   pub at-end : {p : ℕ} → c .step ≡ N.End p → endOf n (c .fillers) (c .«filler_bytes») (opens .depth) (topOf (opens .at) (opens .depth)) ≡ checkOf s start
   at-end {p} e = rw (inner, depth) (last (N.End p) e (reading (N.End p) e))
 
-module _ {s : List ℕ} {start : ℕ} {opens : Chain} {ends-of : List ℕ} {n : Counts} {at : ℕ} {c : Scan} {index from len next : ℕ}
-    (y : Yields s start opens ends-of n at c index from len next) where
+module _ {s : List ℕ} {start : ℕ} {opens : Chain} {ends-of : List ℕ} {n : Counts} {at : ℕ} {c : Scan} {kind index from len next : ℕ}
+    (y : Yields s start opens ends-of n at c kind index from len next) where
   abbrev stack : List Open
   stack = y .turn .inv .stack
 
@@ -184,7 +184,7 @@ module _ {s : List ℕ} {start : ℕ} {opens : Chain} {ends-of : List ℕ} {n : 
   left : (a : Act) → act ≡ a → onAct r stack n a (λ st m. checkFrom (readOf s next) st m) ≡ checkOf s start
   left a ea =
       ap (λ (x : Act). onAct r stack n x (λ st m. checkFrom (readOf s next) st m)) (sym ea ∙ same-act (y .turn) (r .bytes) index)
-      ∙ sym (check-more r (readOf s next) (readOf s at) stack n (reading (y .turn) (N.Record index from len next) (y .yields)))
+      ∙ sym (check-more r (readOf s next) (readOf s at) stack n (reading (y .turn) (N.Record kind index from len next) (y .yields)))
       ∙ y .turn .inv .same
 
   roomy : (a : Act) → act ≡ a → Room (opens .depth) a

@@ -52,7 +52,7 @@ module _ (last : Scan) (m : Counts) where
   last-sums (N.End p) q st n g =
       record { total = end-total n _ _ _ g; passes = λ e h. absurd (let z : _≡_ {A = ℕ} 0 1 = cc in omega arith) }
   last-sums (N.Refused e) q st n g = absurd (refused-not-good g)
-  last-sums (N.Record i a l t) q st n g =
+  last-sums (N.Record kind i a l t) q st n g =
       record { total = end-total n _ _ _ g; passes = λ e h. absurd (let z : _≡_ {A = ℕ} 0 1 = cc in omega arith) }
 
   act-sums : (r : Rec) (rs : List Rec) → ((st : List Open) (n : Counts) → checkOn last rs st n ≡ C.Good m → Sums rs n) →

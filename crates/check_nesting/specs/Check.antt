@@ -88,7 +88,7 @@ endOf n fillers fillerBytes depth inner =
 abbrev pub onLast : Scan → Next → List Open → Counts → Checked
 onLast c (N.End p) st n = endOf n (c .fillers) (c .«filler_bytes») (length st) (innerIndex st)
 onLast c (N.Refused e) st n = C.Refused e
-onLast c (N.Record index start len next) st n = endOf n (c .fillers) (c .«filler_bytes») (length st) (innerIndex st)
+onLast c (N.Record kind index start len next) st n = endOf n (c .fillers) (c .«filler_bytes») (length st) (innerIndex st)
 
 -- the check of the records that are left, and of the last step
 unfoldable pub checkOn : Scan → List Rec → List Open → Counts → Checked

@@ -3,7 +3,7 @@ ghost use mathlib.Core.Path.{_≡_};
 ghost use Prim.Native.Nat.{_≤_};
 ghost use Rattle.chain.specs.Chain.{topOf};
 ghost use Rattle.constants.specs.declared.Role.the-variants.{Opens};
-ghost use Rattle.constants.specs.Raw.{nestingRoleOf};
+ghost use Rattle.constants.specs.Raw.{rawKind, nestingRoleOf};
 ghost use Rattle.links.specs.Links.{linksOf};
 ghost use Rattle.check_nesting.specs.Act.{actOf, openOf};
 use super::stack::innermost;
@@ -26,19 +26,21 @@ pub enum Act {
     Refused(Refusal),
 }
 
-// The act at a record, with so many openers open and their indexes and end fields. The innermost is looked at only where the record
+// The act at a record of this kind, with so many openers open and their indexes and end fields. The innermost is looked at only where the record
 // opens or closes a scope.
 pub fn act_at<'a>(
+    kind: u16,
     rec: &[u8],
     index: usize,
     opens: &'a [u32; 64],
     ends: &'a [u32; 64],
     depth: usize,
 ) -> Act
+    requires { ⌜ kind ≡ rawKind (now rec) ⌝ }
     requires { ⌜ depth ≤ 64 ⌝ }
     ensures { λ r. ⌜ r ≡ actOf (now (rec .entry)) index depth (topOf (now (opens .entry)) depth) (topOf (now (ends .entry)) depth) ⌝ }
 {
-    match constants::kind::nesting_role(rec) {
+    match constants::nesting_role(kind) {
         Role::Opens => return open_at(rec, index, depth, innermost(opens, depth)),
         Role::Closes => {
             if depth == 0 {

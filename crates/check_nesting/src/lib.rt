@@ -6,6 +6,7 @@ ghost use mathlib.Core.Path.{_≡_};
 ghost use Prim.Native.Nat.{_+_, _<_, _^_};
 ghost use Rattle.check_nesting.specs.Check.{countedOf, openedOf, noCounts, endOf, checkOf, addsUp};
 use act::Act;
+use act::act_at;
 use common::Refusal;
 use iter::Next;
 use iter::Scan;
@@ -110,17 +111,18 @@ pub fn check(s: &[u8], start: usize) -> Checked
     ensures { λ r. ⌜ r ≡ checkOf (now (s .entry)) start ⌝ }
     ensures { λ r. ⌜ addsUp r (now (s .entry)) start ⌝ }
 {
-    let mut stack = Stack::new();
+    let mut st = Stack::new();
     let mut n = no_counts();
     let mut at = start;
     loop {
         let c = iter::scan_at(s, at);
         let found = c.step;
-        let depth = stack.opens.depth;
+        let depth = st.opens.depth;
         match found {
-            Next::End(_) => return at_end(n, c, depth, stack::innermost(&stack.opens.at, depth)),
+            Next::End(_) => return at_end(n, c, depth, stack::innermost(&st.opens.at, depth)),
             Next::Refused(e) => return Checked::Refused(e),
             Next::Record {
+                kind,
                 index,
                 start: from,
                 len,
@@ -128,16 +130,16 @@ pub fn check(s: &[u8], start: usize) -> Checked
             } => {
                 n = counted(n, c, len);
                 at = next;
-                match act::act_at(&s[from..next], index, &stack.opens.at, &stack.ends, depth) {
+                match act_at(kind, &s[from..next], index, &st.opens.at, &st.ends, depth) {
                     Act::Stay => {}
                     Act::Push(end) => {
-                        stack.opens.depth = stack::push(&mut stack.opens.at, depth, index as u32);
-                        stack.ends[depth] = end;
+                        st.opens.depth = stack::push(&mut st.opens.at, depth, index as u32);
+                        st.ends[depth] = end;
                         n = opened(n, depth);
                     }
                     Act::Pop => {
-                        stack.opens.depth = stack::pop(&mut stack.opens.at, depth);
-                        stack.ends[depth - 1] = 0;
+                        st.opens.depth = stack::pop(&mut st.opens.at, depth);
+                        st.ends[depth - 1] = 0;
                     }
                     Act::Refused(e) => return Checked::Refused(e),
                 }

@@ -10,7 +10,7 @@ use Rattle.constants.specs.declared.Role.the-variants.{Neither, Opens, Closes}
 use Rattle.iter.specs.Step.{stepOf}
 use Rattle.iter.specs.declared.Next.{Next}
 use Rattle.iter.specs.declared.Next.the-variants as N
-use Rattle.constants.specs.Raw.{nestingRoleOf}
+use Rattle.constants.specs.Kind.{nestingRole}
 use Rattle.links.specs.Links.{linksOf}
 use Rattle.links.specs.declared.Links.{Links}
 use Rattle.links.specs.declared.Links.the-variants as K
@@ -32,8 +32,8 @@ openerIn bytes Neither = O.Refused (refusal 14 0 0)
 abbrev pub openerOn : List ℕ → ℕ → Next → Opener
 openerOn s at (N.End p) = O.Refused (refusal 14 0 0)
 openerOn s at (N.Refused e) = O.Refused e
-openerOn s at (N.Record index start len next) =
-    cond (eqb index at) (openerIn (take len (drop start s)) (nestingRoleOf (take len (drop start s)))) (O.Refused (refusal 14 0 0))
+openerOn s at (N.Record kind index start len next) =
+    cond (eqb index at) (openerIn (take len (drop start s)) (nestingRole kind)) (O.Refused (refusal 14 0 0))
 
 unfoldable pub openerOf : List ℕ → ℕ → Opener
 openerOf s at = openerOn s at (stepOf s at)

@@ -40,6 +40,7 @@ pub fn opener_at(s: &[u8], at: usize) -> Opener
         Next::End(_) => return Opener::Refused(Refusal::at(Refusal::NOTHING_THERE, 0)),
         Next::Refused(e) => return Opener::Refused(e),
         Next::Record {
+            kind,
             index,
             start: from,
             len: _,
@@ -48,7 +49,7 @@ pub fn opener_at(s: &[u8], at: usize) -> Opener
             if index != at {
                 return Opener::Refused(Refusal::at(Refusal::NOTHING_THERE, 0));
             }
-            match constants::kind::nesting_role(&s[from..next]) {
+            match constants::nesting_role(kind) {
                 Role::Opens => return opener_in(&s[from..next]),
                 Role::Closes => return Opener::Refused(Refusal::at(Refusal::NOTHING_THERE, 0)),
                 Role::Neither => return Opener::Refused(Refusal::at(Refusal::NOTHING_THERE, 0)),

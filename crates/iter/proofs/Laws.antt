@@ -21,11 +21,12 @@ use Rattle.iter.specs.declared.Next.{Next}
 use Rattle.iter.specs.declared.Next.the-variants.{End, Refused, Record}
 
 -- a whole frame lies within the stream, and its record has at least two bytes
-pub record Fits (s : List ℕ) (p len : ℕ) : Type 0 where
+pub record Fits (s : List ℕ) (p kind len : ℕ) : Type 0 where
   pub within : p + 2 + len ≤ length s
   pub least : 2 ≤ len
+  pub kind-is : le 2 s (p + 2) ≡ kind
 
-pub whole-fits : (s : List ℕ) (p kind len : ℕ) → frameAt s p ≡ F.Whole kind len → Fits s p len
+pub whole-fits : (s : List ℕ) (p kind len : ℕ) → frameAt s p ≡ F.Whole kind len → Fits s p kind len
 unfolding frameAt
 whole-fits s p kind len = go (leb (length s) p) refl (ltb (length s - p) 2) refl (ltb (le 2 s p) 2) refl (ltb (length s - (p + 2)) (le 2 s p)) refl
   where
@@ -35,13 +36,14 @@ whole-fits s p kind len = go (leb (length s) p) refl (ltb (length s - p) 2) refl
         (d : Bool) → ltb (le 2 s p) 2 ≡ d →
         (f : Bool) → ltb (length s - (p + 2)) (le 2 s p) ≡ f →
         cond a F.Nothing (cond b (F.Refused (refusal 1 p 0)) (cond d (F.Refused (refusal 2 (p + 2) 0)) (cond f (F.Refused (refusal 1 (p + 2) 0)) (F.Whole (le 2 s (p + 2)) (le 2 s p))))) ≡ F.Whole kind len →
-        Fits s p len
+        Fits s p kind len
     go true ea b eb d ed f ef e = let z : _≡_ {A = ℕ} 0 1 = cc in omega arith
     go false ea true eb d ed f ef e = let z : _≡_ {A = ℕ} 0 1 = cc in omega arith
     go false ea false eb true ed f ef e = let z : _≡_ {A = ℕ} 0 1 = cc in omega arith
     go false ea false eb false ed true ef e = let z : _≡_ {A = ℕ} 0 1 = cc in omega arith
     go false ea false eb false ed false ef e =
         let z : le 2 s p ≡ len = cc in
+        let y : le 2 s (p + 2) ≡ kind = cc in
         omega (arith, leb-false, ltb-false)
 
 -- The loop's invariant: a step that answers r comes by p, when it has passed over so many records and bytes.
@@ -89,13 +91,13 @@ module _ (s : List ℕ) (r : Scan) (p fillers fillerBytes : ℕ) (h : Comes s r 
   at-refused x e = ends (F.Refused x) (Refused x) e (λ on. refl)
 
   pub at-record : (kind len : ℕ) → frameAt s p ≡ F.Whole kind len → isFiller kind ≡ false →
-      record { fillers = fillers; «filler_bytes» = fillerBytes; step = Record p (p + 2) len (p + 2 + len) } ≡ r
-  at-record kind len e f = ends (F.Whole kind len) (Record p (p + 2) len (p + 2 + len)) e (λ on. ap (λ (b : Bool). onKind b p len on) f)
+      record { fillers = fillers; «filler_bytes» = fillerBytes; step = Record kind p (p + 2) len (p + 2 + len) } ≡ r
+  at-record kind len e f = ends (F.Whole kind len) (Record kind p (p + 2) len (p + 2 + len)) e (λ on. ap (λ (b : Bool). onKind b kind p len on) f)
 
   pub at-filler : (kind len : ℕ) → frameAt s p ≡ F.Whole kind len → isFiller kind ≡ true → Comes s r (p + 2 + len) (fillers + 1) (fillerBytes + (2 + len))
   at-filler kind len e f =
       let w = whole-fits s p kind len e in
-      let x = ap (λ (g : Frame). onFrame p g (λ q. scanFrom (turn .fuel) s q)) e ∙ ap (λ (b : Bool). onKind b p len (λ q. scanFrom (turn .fuel) s q)) f in
+      let x = ap (λ (g : Frame). onFrame p g (λ q. scanFrom (turn .fuel) s q)) e ∙ ap (λ (b : Bool). onKind b kind p len (λ q. scanFrom (turn .fuel) s q)) f in
       let a : scanFrom (turn .fuel) s (p + 2 + len) .fillers + 1 + fillers ≡ r .fillers = rw x at (turn .counts) in
       let b : scanFrom (turn .fuel) s (p + 2 + len) .«filler_bytes» + (2 + len) + fillerBytes ≡ r .«filler_bytes» = rw x at (turn .sizes) in
       record {

@@ -29,20 +29,20 @@ pub record Yielded (s : List ℕ) (p index start len next : ℕ) : Type 0 where
   pub ends : next ≡ start + len
   pub within : next ≤ length s
 
-module _ (s : List ℕ) (index start len next : ℕ) where
+module _ (s : List ℕ) {kind : ℕ} (index start len next : ℕ) where
   from-frame :
       (p : ℕ) (k : ℕ) →
-      ((q : ℕ) → scanFrom k s q .step ≡ Record index start len next → Yielded s q index start len next) →
+      ((q : ℕ) → scanFrom k s q .step ≡ Record kind index start len next → Yielded s q index start len next) →
       (f : Frame) → frameAt s p ≡ f →
-      onFrame p f (λ q. scanFrom k s q) .step ≡ Record index start len next → Yielded s p index start len next
+      onFrame p f (λ q. scanFrom k s q) .step ≡ Record kind index start len next → Yielded s p index start len next
   from-frame p k ih F.Nothing ef e = absurd (let z : _≡_ {A = ℕ} 0 1 = cc in omega arith)
   from-frame p k ih (F.Refused r) ef e = absurd (let z : _≡_ {A = ℕ} 0 1 = cc in omega arith)
-  from-frame p k ih (F.Whole kind l) ef e = go (isFiller kind) e
+  from-frame p k ih (F.Whole own l) ef e = go (isFiller own) e
     where
-      w : Fits s p l
-      w = whole-fits s p kind l ef
+      w : Fits s p own l
+      w = whole-fits s p own l ef
 
-      go : (b : Bool) → onKind b p l (λ q. scanFrom k s q) .step ≡ Record index start len next → Yielded s p index start len next
+      go : (b : Bool) → onKind b own p l (λ q. scanFrom k s q) .step ≡ Record kind index start len next → Yielded s p index start len next
       go true e' =
           let y = ih (p + 2 + l) e' in
           record { from = omega arith; starts = y .starts; least = y .least; ends = y .ends; within = y .within }
@@ -53,7 +53,7 @@ module _ (s : List ℕ) (index start len next : ℕ) where
           let e4 : p + 2 + l ≡ next = cc in
           omega (arith, w)
 
-  from-fits : (k p : ℕ) → scanFrom k s p .step ≡ Record index start len next → Yielded s p index start len next
+  from-fits : (k p : ℕ) → scanFrom k s p .step ≡ Record kind index start len next → Yielded s p index start len next
   unfolding scanFrom
   from-fits zero p e = absurd (let z : _≡_ {A = ℕ} 0 1 = cc in omega arith)
   from-fits (suc k) p e = from-frame p k (from-fits k) (frameAt s p) refl e
@@ -63,14 +63,14 @@ pub record Stepped (s : List ℕ) (at index start len next : ℕ) : Type 0 where
   pub small : length s ≤ 4294967295
   pub yielded : Yielded s at index start len next
 
-pub step-fits : (s : List ℕ) (at index start len next : ℕ) → scanOf s at .step ≡ Record index start len next → Stepped s at index start len next
+pub step-fits : (s : List ℕ) (at index start len next : ℕ) {kind : ℕ} → scanOf s at .step ≡ Record kind index start len next → Stepped s at index start len next
 unfolding scanOf
-step-fits s at index start len next e₀ = go (ltb 4294967295 (length s)) refl (ltb at (length s)) refl e₀
+step-fits s at index start len next {kind} e₀ = go (ltb 4294967295 (length s)) refl (ltb at (length s)) refl e₀
   where
     go :
         (a : Bool) → ltb 4294967295 (length s) ≡ a →
         (b : Bool) → ltb at (length s) ≡ b →
-        cond a (plain (Refused (refusal 5 0 0))) (scanFrom (suc (length s)) s (cond b at (length s))) .step ≡ Record index start len next →
+        cond a (plain (Refused (refusal 5 0 0))) (scanFrom (suc (length s)) s (cond b at (length s))) .step ≡ Record kind index start len next →
         Stepped s at index start len next
     go true ea b eb e = absurd (let z : _≡_ {A = ℕ} 0 1 = cc in omega arith)
     go false ea true eb e = record { small = ltb-false _ _ ea; yielded = from-fits s index start len next (suc (length s)) at e }
@@ -88,14 +88,14 @@ module _ (s : List ℕ) where
       onNext s (scanOf s at) n (λ q. readFrom k s q) ≡ onNext s (scanOf s at) n (λ q. readFrom j s q)
   same-step k j at ih hk hj (End p) e = refl
   same-step k j at ih hk hj (Refused r) e = refl
-  same-step k j at ih hk hj (Record index start len next) e =
+  same-step k j at ih hk hj (Record kind index start len next) e =
       let y = step-fits s at index start len next e in
       ap (more (recAt s (scanOf s at) index start len)) (ih next (omega arith) (omega arith))
 
   stop-step : (j at : ℕ) → length s ≤ at → (n : Next) → scanOf s at .step ≡ n → ended (scanOf s at) ≡ onNext s (scanOf s at) n (λ q. readFrom j s q)
   stop-step j at h (End p) e = refl
   stop-step j at h (Refused r) e = refl
-  stop-step j at h (Record index start len next) e =
+  stop-step j at h (Record kind index start len next) e =
       let y = step-fits s at index start len next e in
       absurd (omega arith)
 
@@ -119,16 +119,16 @@ module _ (s : List ℕ) where
 pub record Fillers (s : List ℕ) (p : ℕ) (c : Scan) : Type 0 where
   pub within : p + c .«filler_bytes» ≤ length s
   pub few : c .fillers ≤ c .«filler_bytes»
-  pub at-record : (index start len next : ℕ) → c .step ≡ Record index start len next → p + c .«filler_bytes» ≡ index
+  pub at-record : (kind index start len next : ℕ) → c .step ≡ Record kind index start len next → p + c .«filler_bytes» ≡ index
   pub at-end : (q : ℕ) → c .step ≡ End q → p + c .«filler_bytes» ≡ q
 
 no-fillers : (s : List ℕ) (p : ℕ) (n : Next) → p ≤ length s →
-    ((index start len next : ℕ) → n ≡ Record index start len next → p ≡ index) → ((q : ℕ) → n ≡ End q → p ≡ q) → Fillers s p (plain n)
+    ((kind index start len next : ℕ) → n ≡ Record kind index start len next → p ≡ index) → ((q : ℕ) → n ≡ End q → p ≡ q) → Fillers s p (plain n)
 no-fillers s p n h r e =
     record {
       within = omega arith;
       few = omega arith;
-      at-record = λ index start len next q. add-zero p ∙ r index start len next q;
+      at-record = λ kind index start len next q. add-zero p ∙ r kind index start len next q;
       at-end = λ x q. add-zero p ∙ e x q;
     }
 
@@ -136,28 +136,28 @@ fillers-frame :
     (s : List ℕ) (p k : ℕ) → p ≤ length s →
     ((q : ℕ) → q ≤ length s → Fillers s q (scanFrom k s q)) →
     (f : Frame) → frameAt s p ≡ f → Fillers s p (onFrame p f (λ q. scanFrom k s q))
-fillers-frame s p k h ih F.Nothing ef = no-fillers s p (End p) h (λ i a l n e. absurd (let z : _≡_ {A = ℕ} 0 1 = cc in omega arith)) (λ q e. cc)
+fillers-frame s p k h ih F.Nothing ef = no-fillers s p (End p) h (λ x i a l n e. absurd (let z : _≡_ {A = ℕ} 0 1 = cc in omega arith)) (λ q e. cc)
 fillers-frame s p k h ih (F.Refused r) ef =
-    no-fillers s p (Refused r) h (λ i a l m e. absurd (let z : _≡_ {A = ℕ} 0 1 = cc in omega arith)) (λ q e. absurd (let z : _≡_ {A = ℕ} 0 1 = cc in omega arith))
-fillers-frame s p k h ih (F.Whole kind l) ef = go (isFiller kind)
+    no-fillers s p (Refused r) h (λ x i a l m e. absurd (let z : _≡_ {A = ℕ} 0 1 = cc in omega arith)) (λ q e. absurd (let z : _≡_ {A = ℕ} 0 1 = cc in omega arith))
+fillers-frame s p k h ih (F.Whole own l) ef = go (isFiller own)
   where
-    w : Fits s p l
-    w = whole-fits s p kind l ef
+    w : Fits s p own l
+    w = whole-fits s p own l ef
 
-    go : (b : Bool) → Fillers s p (onKind b p l (λ q. scanFrom k s q))
+    go : (b : Bool) → Fillers s p (onKind b own p l (λ q. scanFrom k s q))
     go true =
         let y = ih (p + 2 + l) (w .within) in
         record {
           within = omega (arith, y .within);
           few = omega (arith, y .few);
-          at-record = λ i a len n e. omega (arith, y .at-record i a len n e);
+          at-record = λ x i a len n e. omega (arith, y .at-record x i a len n e);
           at-end = λ q e. omega (arith, y .at-end q e);
         }
-    go false = no-fillers s p (Record p (p + 2) l (p + 2 + l)) h (λ i a len n e. cc) (λ q e. absurd (let z : _≡_ {A = ℕ} 0 1 = cc in omega arith))
+    go false = no-fillers s p (Record own p (p + 2) l (p + 2 + l)) h (λ x i a len n e. cc) (λ q e. absurd (let z : _≡_ {A = ℕ} 0 1 = cc in omega arith))
 
 fillers-from : (s : List ℕ) (k p : ℕ) → p ≤ length s → Fillers s p (scanFrom k s p)
 unfolding scanFrom
-fillers-from s zero p h = no-fillers s p (End p) h (λ i a l n e. absurd (let z : _≡_ {A = ℕ} 0 1 = cc in omega arith)) (λ q e. cc)
+fillers-from s zero p h = no-fillers s p (End p) h (λ x i a l n e. absurd (let z : _≡_ {A = ℕ} 0 1 = cc in omega arith)) (λ q e. cc)
 fillers-from s (suc k) p h = fillers-frame s p k h (fillers-from s k) (frameAt s p) refl
 
 within-le : (s : List ℕ) (at : ℕ) → within s at ≤ length s
@@ -174,7 +174,7 @@ fillers-of s at = go (ltb 4294967295 (length s))
     go : (b : Bool) → Fillers s (within s at) (cond b (plain (Refused (refusal 5 0 0))) (scanFrom (suc (length s)) s (within s at)))
     go true =
         no-fillers s (within s at) (Refused (refusal 5 0 0)) (within-le s at)
-        (λ i a l m e. absurd (let z : _≡_ {A = ℕ} 0 1 = cc in omega arith)) (λ q e. absurd (let z : _≡_ {A = ℕ} 0 1 = cc in omega arith))
+        (λ x i a l m e. absurd (let z : _≡_ {A = ℕ} 0 1 = cc in omega arith)) (λ q e. absurd (let z : _≡_ {A = ℕ} 0 1 = cc in omega arith))
     go false = fillers-from s (suc (length s)) (within s at) (within-le s at)
 
 -- End is at the end of the stream
@@ -194,12 +194,12 @@ end-frame : (s : List ℕ) (p k q : ℕ) → p ≤ length s → ((r : ℕ) → p
     (f : Frame) → frameAt s p ≡ f → onFrame p f (λ x. scanFrom k s x) .step ≡ End q → q ≡ length s
 end-frame s p k q h ih F.Nothing ef e = let z : p ≡ q = cc in omega (arith, nothing-past s p ef)
 end-frame s p k q h ih (F.Refused r) ef e = absurd (let z : _≡_ {A = ℕ} 0 1 = cc in omega arith)
-end-frame s p k q h ih (F.Whole kind l) ef e₀ = go (isFiller kind) e₀
+end-frame s p k q h ih (F.Whole own l) ef e₀ = go (isFiller own) e₀
   where
-    w : Fits s p l
-    w = whole-fits s p kind l ef
+    w : Fits s p own l
+    w = whole-fits s p own l ef
 
-    go : (b : Bool) → onKind b p l (λ x. scanFrom k s x) .step ≡ End q → q ≡ length s
+    go : (b : Bool) → onKind b own p l (λ x. scanFrom k s x) .step ≡ End q → q ≡ length s
     go true e = ih (p + 2 + l) (omega arith) (w .within) e
     go false e = absurd (let z : _≡_ {A = ℕ} 0 1 = cc in omega arith)
 

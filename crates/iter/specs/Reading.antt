@@ -31,7 +31,7 @@ more r rest = record { recs = r ∷ rest .recs; last = rest .last }
 abbrev pub onNext : List ℕ → Scan → Next → (ℕ → Reading) → Reading
 onNext s c (End p) on = ended c
 onNext s c (Refused e) on = ended c
-onNext s c (Record index start len next) on = more (recAt s c index start len) (on next)
+onNext s c (Record kind index start len next) on = more (recAt s c index start len) (on next)
 
 -- The reading from a position, where at most k records follow.
 unfoldable pub readFrom : ℕ → List ℕ → ℕ → Reading

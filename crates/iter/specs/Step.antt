@@ -30,15 +30,15 @@ plain n = record { fillers = 0; «filler_bytes» = 0; step = n }
 abbrev pub passOver : ℕ → Scan → Scan
 passOver len c = record { fillers = c .fillers + 1; «filler_bytes» = c .«filler_bytes» + (2 + len); step = c .step }
 
--- fillers are passed over and reading goes on (`on`); otherwise: index, the record's bytes, next position
-abbrev pub onKind : Bool → ℕ → ℕ → (ℕ → Scan) → Scan
-onKind true p len on = passOver len (on (p + 2 + len))
-onKind false p len on = plain (Record p (p + 2) len (p + 2 + len))
+-- fillers are passed over and reading goes on (`on`); otherwise: the kind, index, the record's bytes, next position
+abbrev pub onKind : Bool → ℕ → ℕ → ℕ → (ℕ → Scan) → Scan
+onKind true kind p len on = passOver len (on (p + 2 + len))
+onKind false kind p len on = plain (Record kind p (p + 2) len (p + 2 + len))
 
 abbrev pub onFrame : ℕ → Frame → (ℕ → Scan) → Scan
 onFrame p F.Nothing on = plain (End p)
 onFrame p (F.Refused e) on = plain (Refused e)
-onFrame p (F.Whole kind len) on = onKind (isFiller kind) p len on
+onFrame p (F.Whole kind len) on = onKind (isFiller kind) kind p len on
 
 -- a step from p, where at most k records follow
 unfoldable pub scanFrom : ℕ → List ℕ → ℕ → Scan

@@ -50,8 +50,10 @@ pub enum Next {
     // At bytes that are no record, for this reason.
     Refused(Refusal),
 
-    // At a record: the position of its length field, where its bytes start, kind first, how many they are, and the position after it.
+    // At a record: its kind, the position of its length field, where its bytes start, kind first, how many they are, and the position
+    // after it.
     Record {
+        kind: u16,
         index: usize,
         start: usize,
         len: usize,
@@ -92,6 +94,7 @@ fn scan_within(s: &[u8], from: usize) -> Scan
                     filler_bytes = filler_bytes + (2 + len);
                 } else {
                     let step = Next::Record {
+                        kind,
                         index: p,
                         start,
                         len,

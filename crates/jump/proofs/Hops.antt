@@ -3,9 +3,9 @@
 use mathlib.Core.Path.{_≡_, refl, subst}
 use mathlib.Core.List.{List}
 use mathlib.Core.Bool.{Bool, true, false, cond}
-use Prim.Native.Nat.{ℕ, _+_, _-_, _≤_, _<_}
+use Prim.Native.Nat.{ℕ, _+_, _≤_, _<_}
 use native.Mathlib.Omega.{arith}
-use lib.ListN.{length, take, drop}
+use lib.ListN.{length}
 use lib.Dec.{ltb, leb, eqb}
 use borrow.Author.Tests.{leb-false, ltb-false, le-ltb, ne-eqb}
 use Rattle.common.specs.Reader.{refusal}
@@ -15,6 +15,7 @@ use Rattle.iter.specs.Step.{scanOf}
 use Rattle.iter.specs.declared.Next.{Next}
 use Rattle.iter.specs.declared.Next.the-variants as N
 use Rattle.iter.proofs.Reading.{Stepped, step-fits}
+use Rattle.constants.specs.Kind.{nestingRole}
 use Rattle.constants.specs.Raw.{nestingRoleOf}
 use Rattle.links.specs.Links.{linksOf}
 use Rattle.links.specs.declared.Links.{Links}
@@ -68,14 +69,11 @@ push-room i index next bytes d e = subst (λ (h : Hop). Room next d h) e (room i
 pub over-room : (i index next : ℕ) (bytes : List ℕ) (d end : ℕ) → hopOf i index next bytes d ≡ H.Over end → next ≤ end
 over-room i index next bytes d end e = subst (λ (h : Hop). Room next d h) e (room i index next bytes d)
 
--- where the step from an end field yields a record, by the record as the caller lends it
-pub land-record : (s : List ℕ) (end index from len next : ℕ) → scanOf s end .step ≡ N.Record index from len next →
-    landOf s end ≡ cond (eqb index end) (landRole (nestingRoleOf (take (next - from) (drop from s))) next) (L.Refused (refusal 13 0 0))
+-- where the step from an end field yields a record
+pub land-record : (s : List ℕ) (end index from len next : ℕ) {kind : ℕ} → scanOf s end .step ≡ N.Record kind index from len next →
+    landOf s end ≡ cond (eqb index end) (landRole (nestingRole kind) next) (L.Refused (refusal 13 0 0))
 unfolding landOf
-land-record s end index from len next e =
-    let y = step-fits s end index from len next e in
-    let long : next - from ≡ len = omega arith in
-    rw (e, long)
+land-record s end index from len next e = rw e
 
 -- where a jump lands
 pub record Lands (s : List ℕ) (end after : ℕ) : Type 0 where
@@ -85,7 +83,7 @@ pub record Lands (s : List ℕ) (end after : ℕ) : Type 0 where
 land-on : (s : List ℕ) (end after : ℕ) (n : Next) → scanOf s end .step ≡ n → landOn s end n ≡ L.After after → Lands s end after
 land-on s end after (N.End p) e q = absurd (let z : _≡_ {A = ℕ} 0 1 = cc in omega arith)
 land-on s end after (N.Refused x) e q = absurd (let z : _≡_ {A = ℕ} 0 1 = cc in omega arith)
-land-on s end after (N.Record index from len next) e q = by (eqb index end) (nestingRoleOf (take len (drop from s))) q
+land-on s end after (N.Record kind index from len next) e q = by (eqb index end) (nestingRole kind) q
   where
     y : Stepped s end index from len next
     y = step-fits s end index from len next e

@@ -46,7 +46,7 @@ module _ (s : List ℕ) (i : ℕ) (f g : ℕ → List ℕ → Walk) where
       onStep s i (scanOf s at) n f ≡ onStep s i (scanOf s at) n g
   later-step at (N.End p) e h = refl
   later-step at (N.Refused x) e h = refl
-  later-step at (N.Record index from len next) e h =
+  later-step at (N.Record kind index from len next) e h =
       let y = step-fits s at index from len next e in
       λ j st. later-hop (recAt s (scanOf s at) index from len) at next (length st) st (hopOf i index next (take len (drop from s)) (length st))
       (room i index next (take len (drop from s)) (length st)) (omega (arith, y)) (omega (arith, y)) h j
@@ -81,7 +81,7 @@ module _ (s : List ℕ) (start i : ℕ) (chain : Chain) (at read : ℕ) (g : Jum
   unfolding stepOf
   at-refused x e = answers _ (jump-by s i at (g .stack) (N.Refused x) e)
 
-  module _ (index from len next : ℕ) (e : scanOf s at .step ≡ N.Record index from len next) where
+  module _ {kind : ℕ} (index from len next : ℕ) (e : scanOf s at .step ≡ N.Record kind index from len next) where
     abbrev r : Rec
     r = recAt s (scanOf s at) index from len
 
@@ -100,7 +100,7 @@ module _ (s : List ℕ) (start i : ℕ) (chain : Chain) (at read : ℕ) (g : Jum
     -- the search that is left, at each hop
     left : (h : Hop) → hop ≡ h → jumpFrom s i at (g .stack) ≡ onHop s r next (g .stack) h (jumpFrom s i)
     left h eh =
-        jump-by s i at (g .stack) (N.Record index from len next) e
+        jump-by s i at (g .stack) (N.Record kind index from len next) e
         ∙ ap (λ (x : Hop). onHop s r next (g .stack) x (jumpFrom s i)) (hop-is ∙ eh)
 
     on-with : (st : List ℕ) (ch : Chain) → ch ≡ chainOf st → length st ≤ 64 → jumpFrom s i at (g .stack) ≡ seen r (jumpFrom s i next st) → Jumping s start i ch next (read + 1)

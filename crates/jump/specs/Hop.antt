@@ -2,7 +2,6 @@
 use Prim.Native.Nat.{ℕ}
 use mathlib.Core.List.{List}
 use mathlib.Core.Bool.{cond}
-use lib.ListN.{take, drop}
 use lib.Dec.{ltb, leb, eqb}
 use Rattle.common.specs.Reader.{refusal}
 use Rattle.constants.specs.declared.Role.{Role}
@@ -10,6 +9,7 @@ use Rattle.constants.specs.declared.Role.the-variants.{Neither, Opens, Closes}
 use Rattle.iter.specs.Step.{scanOf}
 use Rattle.iter.specs.declared.Next.{Next}
 use Rattle.iter.specs.declared.Next.the-variants as N
+use Rattle.constants.specs.Kind.{nestingRole}
 use Rattle.constants.specs.Raw.{nestingRoleOf}
 use Rattle.links.specs.Links.{linksOf}
 use Rattle.links.specs.declared.Links.{Links}
@@ -51,8 +51,7 @@ landRole Neither next = L.Refused (refusal 13 0 0)
 abbrev pub landOn : List ℕ → ℕ → Next → Land
 landOn s end (N.End p) = L.Refused (refusal 13 0 0)
 landOn s end (N.Refused e) = L.Refused e
-landOn s end (N.Record index start len next) =
-    cond (eqb index end) (landRole (nestingRoleOf (take len (drop start s))) next) (L.Refused (refusal 13 0 0))
+landOn s end (N.Record kind index start len next) = cond (eqb index end) (landRole (nestingRole kind) next) (L.Refused (refusal 13 0 0))
 
 unfoldable pub landOf : List ℕ → ℕ → Land
 landOf s end = landOn s end (scanOf s end .step)

@@ -20,7 +20,7 @@ use Rattle.jump.specs.Hop.{hopOf, landOf}
 abbrev pub yielded : List ℕ → Scan → Next → Rec
 yielded s c (N.End p) = recAt s c 0 0 0
 yielded s c (N.Refused e) = recAt s c 0 0 0
-yielded s c (N.Record index start len next) = recAt s c index start len
+yielded s c (N.Record kind index start len next) = recAt s c index start len
 
 unfoldable pub yieldedAt : List ℕ → ℕ → Rec
 yieldedAt s at = yielded s (scanOf s at) (scanOf s at .step)
@@ -42,7 +42,7 @@ onHop s r next st (H.Refused e) on = seen r (refusedWith e)
 abbrev pub onStep : List ℕ → ℕ → Scan → Next → (ℕ → List ℕ → Walk) → List ℕ → Walk
 onStep s i c (N.End p) on st = refusedWith (refusal 14 0 0)
 onStep s i c (N.Refused e) on st = refusedWith e
-onStep s i c (N.Record index start len next) on st =
+onStep s i c (N.Record kind index start len next) on st =
     onHop s (recAt s c index start len) next st (hopOf i index next (take len (drop start s)) (length st)) on
 
 unfoldable pub jumpBody : List ℕ → ℕ → (ℕ → List ℕ → Walk) → ℕ → List ℕ → Walk

@@ -1,7 +1,7 @@
 // What the jump finder does at one record, and where a jump over a scope lands: the loop of crate jump does as it says.
 ghost use mathlib.Core.Path.{_≡_};
 ghost use Rattle.constants.specs.declared.Role.the-variants.{Opens};
-ghost use Rattle.constants.specs.Raw.{nestingRoleOf};
+ghost use Rattle.constants.specs.Raw.{rawKind, nestingRoleOf};
 ghost use Rattle.links.specs.Links.{linksOf};
 ghost use Rattle.jump.specs.Hop.{openHop, hopOf, landOf};
 use common::Refusal;
@@ -50,8 +50,9 @@ fn hop_open(rec: &[u8], next: usize, i: usize, depth: usize) -> Hop
     }
 }
 
-// The hop at the record `rec` of this index and next position, on the way to i, with so many openers open.
-pub fn hop_at(rec: &[u8], index: usize, next: usize, i: usize, depth: usize) -> Hop
+// The hop at the record `rec` of this kind, index and next position, on the way to i, with so many openers open.
+pub fn hop_at(kind: u16, rec: &[u8], index: usize, next: usize, i: usize, depth: usize) -> Hop
+    requires { ⌜ kind ≡ rawKind (now rec) ⌝ }
     ensures { λ r. ⌜ r ≡ hopOf i index next (now (rec .entry)) depth ⌝ }
 {
     if index == i {
@@ -60,7 +61,7 @@ pub fn hop_at(rec: &[u8], index: usize, next: usize, i: usize, depth: usize) -> 
     if i < index {
         return Hop::Refused(Refusal::at(Refusal::NOTHING_THERE, 0));
     }
-    match constants::kind::nesting_role(rec) {
+    match constants::nesting_role(kind) {
         Role::Opens => return hop_open(rec, next, i, depth),
         Role::Closes => return Hop::Refused(Refusal::at(Refusal::UNUSABLE_LINK, 0)),
         Role::Neither => return Hop::Stay,
@@ -84,15 +85,16 @@ pub fn land_at(s: &[u8], end: usize) -> Land
         Next::End(_) => return Land::Refused(Refusal::at(Refusal::UNUSABLE_LINK, 0)),
         Next::Refused(e) => return Land::Refused(e),
         Next::Record {
+            kind,
             index,
-            start: from,
+            start: _,
             len: _,
             next,
         } => {
             if index != end {
                 return Land::Refused(Refusal::at(Refusal::UNUSABLE_LINK, 0));
             }
-            match constants::kind::nesting_role(&s[from..next]) {
+            match constants::nesting_role(kind) {
                 Role::Opens => return Land::Refused(Refusal::at(Refusal::UNUSABLE_LINK, 0)),
                 Role::Closes => return Land::After(next),
                 Role::Neither => return Land::Refused(Refusal::at(Refusal::UNUSABLE_LINK, 0)),

@@ -24,6 +24,7 @@ pub fn jump(s: &[u8], start: usize, i: usize) -> Finding
             Next::End(_) => return chain::finding::refused(Refusal::at(Refusal::NOTHING_THERE, 0)),
             Next::Refused(e) => return chain::finding::refused(e),
             Next::Record {
+                kind,
                 index,
                 start: from,
                 len: _,
@@ -32,7 +33,7 @@ pub fn jump(s: &[u8], start: usize, i: usize) -> Finding
                 at = next;
                 read = read + 1;
                 let depth = chain.depth;
-                match hop::hop_at(&s[from..next], index, next, i, depth) {
+                match hop::hop_at(kind, &s[from..next], index, next, i, depth) {
                     Hop::Stay => {}
                     Hop::Push => {
                         chain.at[depth] = index as u32;

@@ -21,7 +21,7 @@ use Rattle.reply.specs.Reply.{Reply, answers, refuses, chainReply}
 -- given as where they start and how many they are.
 abbrev pub stepReply : Next → Reply
 stepReply (N.End position) = answers (0 ∷ position ∷ [])
-stepReply (N.Record index start len next) = answers (1 ∷ index ∷ start ∷ len ∷ next ∷ [])
+stepReply (N.Record kind index start len next) = answers (1 ∷ index ∷ start ∷ len ∷ next ∷ [])
 stepReply (N.Refused e) = refuses e
 
 -- "Kind, opener, closer never refuse, at any length"

@@ -18,6 +18,7 @@ pub fn reply_step(answer: Next, out: &mut [u64; 5]) -> u32
             return 0;
         }
         Next::Record {
+            kind: _,
             index,
             start,
             len,

@@ -10,7 +10,8 @@ use Rattle.constants.specs.declared.Role.the-variants.{Neither, Opens, Closes}
 use Rattle.iter.specs.Reading.{Rec, Reading, readOf}
 use Rattle.iter.specs.declared.Next.{Next}
 use Rattle.iter.specs.declared.Next.the-variants as N
-use Rattle.constants.specs.Raw.{nestingRoleOf}
+use Rattle.constants.specs.Kind.{nestingRole}
+use Rattle.constants.specs.Raw.{rawKind}
 use Rattle.chain.specs.Finding.{Walk, seen, foundAt, refusedWith, findingOf}
 use Rattle.chain.specs.declared.finding.Finding.{Finding}
 use Rattle.walk.specs.declared.Turn.{Turn}
@@ -23,11 +24,11 @@ turnOfRole Closes depth = cond (eqb depth 0) (T.Refused (refusal 10 0 0)) T.Pop
 turnOfRole Neither depth = T.Stay
 
 -- For each record read: index i answers the stack; a larger index is 14; then its role decides.
-unfoldable pub turnOf : ℕ → ℕ → List ℕ → ℕ → Turn
-turnOf i index bytes depth =
+unfoldable pub turnOf : ℕ → ℕ → ℕ → ℕ → Turn
+turnOf i index kind depth =
     cond (eqb index i) T.Found
     (cond (ltb i index) (T.Refused (refusal 14 0 0))
-    (turnOfRole (nestingRoleOf bytes) depth))
+    (turnOfRole (nestingRole kind) depth))
 
 -- The walk from a record, where `on` is the walk over the records after it, with a stack.
 abbrev pub onTurn : Rec → List ℕ → Turn → (List ℕ → Walk) → Walk
@@ -41,11 +42,11 @@ onTurn r st (T.Refused e) on = seen r (refusedWith e)
 abbrev pub walkLast : Next → Walk
 walkLast (N.End p) = refusedWith (refusal 14 0 0)
 walkLast (N.Refused e) = refusedWith e
-walkLast (N.Record index start len next) = refusedWith (refusal 14 0 0)
+walkLast (N.Record kind index start len next) = refusedWith (refusal 14 0 0)
 
 unfoldable pub walkOn : ℕ → Next → List Rec → List ℕ → Walk
 walkOn i last [] st = walkLast last
-walkOn i last (r ∷ rs) st = onTurn r st (turnOf i (r .index) (r .bytes) (length st)) (λ st'. walkOn i last rs st')
+walkOn i last (r ∷ rs) st = onTurn r st (turnOf i (r .index) (rawKind (r .bytes)) (length st)) (λ st'. walkOn i last rs st')
 
 -- the walk over a reading, with a stack
 unfoldable pub walkFrom : ℕ → Reading → List ℕ → Walk

@@ -27,9 +27,9 @@ pub enum Turn {
     Refused(Refusal),
 }
 
-// The turn at the record `rec` of this index, on the way to i, with so many openers open.
-fn turn_at(rec: &[u8], index: usize, i: usize, depth: usize) -> Turn
-    ensures { λ r. ⌜ r ≡ turnOf i index (now (rec .entry)) depth ⌝ }
+// The turn at a record of this kind and index, on the way to i, with so many openers open.
+fn turn_at(kind: u16, index: usize, i: usize, depth: usize) -> Turn
+    ensures { λ r. ⌜ r ≡ turnOf i index kind depth ⌝ }
 {
     if index == i {
         return Turn::Found;
@@ -37,7 +37,7 @@ fn turn_at(rec: &[u8], index: usize, i: usize, depth: usize) -> Turn
     if i < index {
         return Turn::Refused(Refusal::at(Refusal::NOTHING_THERE, 0));
     }
-    match constants::kind::nesting_role(rec) {
+    match constants::nesting_role(kind) {
         Role::Opens => {
             if 64 <= depth {
                 return Turn::Refused(Refusal::at(Refusal::TOO_DEEP, 0));
@@ -66,15 +66,16 @@ pub fn walk(s: &[u8], start: usize, i: usize) -> Finding
             Next::End(_) => return chain::finding::refused(Refusal::at(Refusal::NOTHING_THERE, 0)),
             Next::Refused(e) => return chain::finding::refused(e),
             Next::Record {
+                kind,
                 index,
-                start: from,
+                start: _,
                 len: _,
                 next,
             } => {
                 at = next;
                 read = read + 1;
                 let depth = chain.depth;
-                match turn_at(&s[from..next], index, i, depth) {
+                match turn_at(kind, index, i, depth) {
                     Turn::Stay => {}
                     Turn::Push => {
                         chain.at[depth] = index as u32;

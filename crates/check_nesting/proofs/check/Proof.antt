@@ -6,6 +6,10 @@ use mathlib.Core.List.{List}
 use Prim.Native.Nat.{ℕ, _-_, _<_}
 use lib.ListN.{length}
 use native.Mathlib.Omega.{arith}
+use Rattle.iter.specs.Step.{scanOf}
+use Rattle.iter.specs.declared.Scan.{Scan}
+use Rattle.iter.specs.declared.Next.the-variants.{Record}
+use Rattle.iter.proofs.Records.{kind-lent}
 use Rattle.check_nesting.specs.declared.Counts.{Counts}
 use Rattle.check_nesting.specs.declared.stack.Stack.{Stack}
 use Rattle.check_nesting.specs.declared.Checked.{Checked}
@@ -23,26 +27,31 @@ abbrev μ-loop : tie.MeasureT-loop
 
 -- the step that was made
 turnAt : (c : tie.After-scan-at Inv-loop μ-loop) →
-    Turn (c .before .before .before .before .before .args .s .now) (c .before .before .before .before .before .args .start) (c .before .loop .stack .opens) (c .before .loop .stack .ends) (c .before .loop .n) (c .before .loop .at) (c .scan-at .result)
+    Turn (c .before .before .before .before .before .args .s .now) (c .before .before .before .before .before .args .start) (c .before .loop .st .opens) (c .before .loop .st .ends) (c .before .loop .n) (c .before .loop .at) (c .scan-at .result)
 turnAt c = record { inv = c .before .loop .inv; scan = c .scan-at .ensures }
 
 -- the record that it yields
 recordAt : (c : tie.After-known-told2 Inv-loop μ-loop) →
-    Yields (c .before .before .before .before .before .before .before .before .args .s .now) (c .before .before .before .before .before .before .before .before .args .start) (c .before .before .before .before .loop .stack .opens) (c .before .before .before .before .loop .stack .ends) (c .before .before .before .before .loop .n) (c .before .before .before .before .loop .at) (c .before .before .before .scan-at .result)
-    (c .before .found2 .given .0 .0) (c .before .found2 .given .0 .1 .0) (c .before .found2 .given .0 .1 .1 .0) (c .before .found2 .given .0 .1 .1 .1 .0)
+    Yields (c .before .before .before .before .before .before .before .before .args .s .now) (c .before .before .before .before .before .before .before .before .args .start) (c .before .before .before .before .loop .st .opens) (c .before .before .before .before .loop .st .ends) (c .before .before .before .before .loop .n) (c .before .before .before .before .loop .at) (c .before .before .before .scan-at .result)
+    (c .before .found2 .given .0 .0) (c .before .found2 .given .0 .1 .0) (c .before .found2 .given .0 .1 .1 .0) (c .before .found2 .given .0 .1 .1 .1 .0) (c .before .found2 .given .0 .1 .1 .1 .1 .0)
 recordAt c = record { turn = turnAt (c .before .before .before); yields = c .before .found2 .given .1 }
+
+stepped : (c : tie.After-known-told2 Inv-loop μ-loop) →
+    scanOf (c .before .before .before .before .before .before .before .before .args .s .now) (c .before .before .before .before .loop .at) .step
+    ≡ Record (c .before .found2 .given .0 .0) (c .before .found2 .given .0 .1 .0) (c .before .found2 .given .0 .1 .1 .0) (c .before .found2 .given .0 .1 .1 .1 .0) (c .before .found2 .given .0 .1 .1 .1 .1 .0)
+stepped c = ap (λ (x : Scan). x .step) (sym (c .before .before .before .scan-at .ensures)) ∙ c .before .found2 .given .1
 
 -- what is done with it, on its own bytes
 acted : (c : tie.After-act-at Inv-loop μ-loop) → c .act-at .result ≡ act (recordAt (c .before .before .before .before .before .before))
 acted c =
-    let e : c .before .before .before .before .before .before .before .found2 .given .0 .1 .1 .1 .0 - c .before .before .before .before .before .before .before .found2 .given .0 .1 .0 ≡ c .before .before .before .before .before .before .before .found2 .given .0 .1 .1 .0 = omega (arith, found (recordAt (c .before .before .before .before .before .before))) in
+    let e : c .before .before .before .before .before .before .before .found2 .given .0 .1 .1 .1 .1 .0 - c .before .before .before .before .before .before .before .found2 .given .0 .1 .1 .0 ≡ c .before .before .before .before .before .before .before .found2 .given .0 .1 .1 .1 .0 = omega (arith, found (recordAt (c .before .before .before .before .before .before))) in
     c .act-at .ensures ∙ rw e
 
 -- a push finds room, and a pop an open opener
-pushRoom : (c : tie.After-known-told3 Inv-loop μ-loop) → c .before .before .before .before .before .before .before .before .before .before .before .before .before .loop .stack .opens .depth < 64
+pushRoom : (c : tie.After-known-told3 Inv-loop μ-loop) → c .before .before .before .before .before .before .before .before .before .before .before .before .before .loop .st .opens .depth < 64
 pushRoom c = push-room (recordAt (c .before .before .before .before .before .before .before .before .before)) (sym (acted (c .before .before .before)) ∙ c .before .end .given .1)
 
-popRoom : (c : tie.After-enum-told3 Inv-loop μ-loop) → c .before .before .before .before .before .before .before .before .before .before .before .before .loop .stack .opens .depth ≡ 0 → ⊥
+popRoom : (c : tie.After-enum-told3 Inv-loop μ-loop) → c .before .before .before .before .before .before .before .before .before .before .before .before .loop .st .opens .depth ≡ 0 → ⊥
 popRoom c = pop-room (recordAt (c .before .before .before .before .before .before .before .before)) (sym (acted (c .before .before)) ∙ c .enum-told3 .given .1)
 
 -- the answer is the definition's, and its sums add up
@@ -79,7 +88,7 @@ part-act-at-end : tie.Need-part-act-at-end Inv-loop μ-loop
 part-act-at-end c = omega (arith, found (recordAt (c .before)))
 
 act-at-requires : tie.Need-act-at-requires Inv-loop μ-loop
-act-at-requires c κs = depth-most (turnAt (c .before .before .before .before .before .before .before .before))
+act-at-requires c κs = (kind-lent _ _ _ _ _ _ (stepped (c .before .before .before .before .before)), depth-most (turnAt (c .before .before .before .before .before .before .before .before)))
 
 loop-less : tie.Need-loop-less Inv-loop μ-loop
 loop-less c = omega (arith, found (recordAt (c .before .before .before .before .before .before .before .before)))
@@ -93,11 +102,11 @@ cast-push c = omega (arith, found (recordAt (c .before .before .before .before .
 push-requires : tie.Need-push-requires Inv-loop μ-loop
 push-requires c κs = pushRoom (c .before)
 
-mul-stack : tie.Need-mul-stack Inv-loop μ-loop
-mul-stack c = omega (arith, pushRoom (c .before .before .before))
+mul-st : tie.Need-mul-st Inv-loop μ-loop
+mul-st c = omega (arith, pushRoom (c .before .before .before))
 
-element-write-stack : tie.Need-element-write-stack Inv-loop μ-loop
-element-write-stack c = omega (arith, pushRoom (c .before .before .before))
+element-write-st : tie.Need-element-write-st Inv-loop μ-loop
+element-write-st c = omega (arith, pushRoom (c .before .before .before))
 
 opened-requires : tie.Need-opened-requires Inv-loop μ-loop
 unfolding countedOf
@@ -116,14 +125,14 @@ loop-again-2 c =
 pop-requires : tie.Need-pop-requires Inv-loop μ-loop
 pop-requires c κs = omega (arith, popRoom (c .before), depth-most (turnAt (c .before .before .before .before .before .before .before .before .before .before .before .before)))
 
-sub-stack : tie.Need-sub-stack Inv-loop μ-loop
-sub-stack c = omega (arith, popRoom (c .before .before .before))
+sub-st : tie.Need-sub-st Inv-loop μ-loop
+sub-st c = omega (arith, popRoom (c .before .before .before))
 
-mul-stack-2 : tie.Need-mul-stack-2 Inv-loop μ-loop
-mul-stack-2 c = omega (arith, popRoom (c .before .before .before), depth-most (turnAt (c .before .before .before .before .before .before .before .before .before .before .before .before .before .before)))
+mul-st-2 : tie.Need-mul-st-2 Inv-loop μ-loop
+mul-st-2 c = omega (arith, popRoom (c .before .before .before), depth-most (turnAt (c .before .before .before .before .before .before .before .before .before .before .before .before .before .before)))
 
-element-write-stack-2 : tie.Need-element-write-stack-2 Inv-loop μ-loop
-element-write-stack-2 c = omega (arith, popRoom (c .before .before .before), depth-most (turnAt (c .before .before .before .before .before .before .before .before .before .before .before .before .before .before)))
+element-write-st-2 : tie.Need-element-write-st-2 Inv-loop μ-loop
+element-write-st-2 c = omega (arith, popRoom (c .before .before .before), depth-most (turnAt (c .before .before .before .before .before .before .before .before .before .before .before .before .before .before)))
 
 loop-less-3 : tie.Need-loop-less-3 Inv-loop μ-loop
 loop-less-3 c = omega (arith, found (recordAt (c .before .before .before .before .before .before .before .before .before .before .before)))
@@ -164,16 +173,16 @@ check-spec =
     (λ c. search needs)
     cast-push
     push-requires
-    mul-stack
-    element-write-stack
+    mul-st
+    element-write-st
     opened-requires
     loop-less-2
     loop-again-2
     (λ c. search needs)
     pop-requires
-    sub-stack
-    mul-stack-2
-    element-write-stack-2
+    sub-st
+    mul-st-2
+    element-write-st-2
     loop-less-3
     loop-again-3
     (λ c. search needs)

@@ -21,7 +21,7 @@ abbrev μ-loop : tie.MeasureT-loop
 found : (c : tie.After-known-told2 Inv-loop μ-loop) → frameAt (c .before .before .before .before .before .before .args .s .now) (c .before .before .before .before .loop .p) ≡ Whole (c .before .kind .given .0 .0) (c .before .kind .given .0 .1 .0)
 found c = sym (c .before .before .before .frame-at .ensures) ∙ c .before .kind .given .1
 
-fits : (c : tie.After-known-told2 Inv-loop μ-loop) → Fits (c .before .before .before .before .before .before .args .s .now) (c .before .before .before .before .loop .p) (c .before .kind .given .0 .1 .0)
+fits : (c : tie.After-known-told2 Inv-loop μ-loop) → Fits (c .before .before .before .before .before .before .args .s .now) (c .before .before .before .before .loop .p) (c .before .kind .given .0 .0) (c .before .kind .given .0 .1 .0)
 fits c = whole-fits _ _ _ _ (found c)
 
 loop-holds : tie.Need-loop-holds Inv-loop μ-loop

@@ -8,6 +8,7 @@ use lib.ListN.{length}
 use Rattle.iter.specs.Step.{scanOf, stepOf}
 use Rattle.iter.specs.declared.Next.the-variants.{Record}
 use Rattle.iter.proofs.Reading.{step-fits}
+use Rattle.iter.proofs.Records.{kind-lent}
 use Rattle.chain.proofs.Goings.{going-first}
 use Rattle.jump.proofs.Hops.{push-room}
 use Rattle.jump.proofs.Jumps.{Jumping, at-end, at-refused, going-stay, going-push, over, going-over, at-miss, at-found, at-refusing}
@@ -23,9 +24,9 @@ abbrev μ-loop : tie.MeasureT-loop
 -- the record that the step yielded
 stepped : (c : tie.After-known-told2 Inv-loop μ-loop) →
     scanOf (c .before .before .before .before .before .before .before .args .s .now) (c .before .before .before .before .loop .at) .step
-    ≡ Record (c .before .index .given .0 .0) (c .before .index .given .0 .1 .0) (c .before .index .given .0 .1 .1 .0) (c .before .index .given .0 .1 .1 .1 .0)
+    ≡ Record (c .before .kind .given .0 .0) (c .before .kind .given .0 .1 .0) (c .before .kind .given .0 .1 .1 .0) (c .before .kind .given .0 .1 .1 .1 .0) (c .before .kind .given .0 .1 .1 .1 .1 .0)
 unfolding stepOf
-stepped c = sym (c .before .before .before .step .ensures) ∙ c .before .index .given .1
+stepped c = sym (c .before .before .before .step .ensures) ∙ c .before .kind .given .1
 
 -- a push has room
 pushes : (c : tie.After-enum-told3 Inv-loop μ-loop) → c .before .before .before .before .before .before .before .before .loop .chain .depth < 64
@@ -51,6 +52,9 @@ part-hop-at-start c = omega (arith, step-fits _ _ _ _ _ _ (stepped c))
 
 part-hop-at-end : tie.Need-part-hop-at-end Inv-loop μ-loop
 part-hop-at-end c = omega (arith, step-fits _ _ _ _ _ _ (stepped c))
+
+hop-at-requires : tie.Need-hop-at-requires Inv-loop μ-loop
+hop-at-requires c κs = kind-lent _ _ _ _ _ _ (stepped (c .before))
 
 loop-less : tie.Need-loop-less Inv-loop μ-loop
 loop-less c = omega (arith, c .before .before .before .before .before .before .before .before .loop .inv, step-fits _ _ _ _ _ _ (stepped (c .before .before .before .before)))
@@ -115,7 +119,7 @@ jump-spec =
     sub-hop-at
     part-hop-at-start
     part-hop-at-end
-    (λ c κs. search needs)
+    hop-at-requires
     (λ c. search needs)
     loop-less
     loop-again
