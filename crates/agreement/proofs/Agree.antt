@@ -71,8 +71,8 @@ module _ (s : List ℕ) (i : ℕ) where
   Goal p st = Agree (jumpFrom s i p (indexes st)) (walkAt s i p (indexes st))
 
   -- a record before i is dealt with by `before`; at i and past it nothing else matters
-  meets : {index from len next : ℕ} (p : ℕ) (st : List Open) → scanOf s p .next ≡ N.Record index from len next → (index < i → Goal p st) → Goal p st
-  meets {index} {from} {len} {next} p st h before = go (order index i)
+  meets : {kind index from len next : ℕ} (p : ℕ) (st : List Open) → scanOf s p .step ≡ N.Record kind index from len next → (index < i → Goal p st) → Goal p st
+  meets {kind} {index} {from} {len} {next} p st h before = go (order index i)
     where
       go : Order index i → Goal p st
       go (less a) = before a

@@ -5,7 +5,7 @@ use mathlib.Core.Logic.{_⊎_, inl, inr}
 use mathlib.Core.List.{List, [], _∷_, reverse}
 use Prim.Native.Nat.{ℕ, suc, _+_, _-_, _≤_, _<_}
 use native.Mathlib.Omega.{arith}
-use lib.ListN.{length}
+use lib.ListN.{length, length-reverse}
 use Rattle.common.specs.Reader.{refusal}
 use Rattle.constants.specs.declared.Role.the-variants.{Neither, Opens, Closes}
 use Rattle.iter.specs.Step.{scanOf}
@@ -51,15 +51,15 @@ module _ (s : List ℕ) (P : Rec → Type 0) where
   abbrev From : ℕ → Type 0
   From p = Some P (readOf s p .recs)
 
-  from-end : (p q : ℕ) → scanOf s p .next ≡ N.End q → From p → ⊥
+  from-end : (p q : ℕ) → scanOf s p .step ≡ N.End q → From p → ⊥
   from-end p q e b = subst (λ (r : Reading). Some P (r .recs)) (read-by s p (N.End q) e) b
 
-  module _ (p index from len next : ℕ) (e : scanOf s p .next ≡ N.Record index from len next) where
+  module _ (p index from len next : ℕ) {kind : ℕ} (e : scanOf s p .step ≡ N.Record kind index from len next) where
     from-is : From p → P (recAt s (scanOf s p) index from len) ⊎ From next
-    from-is b = subst (λ (r : Reading). Some P (r .recs)) (read-by s p (N.Record index from len next) e) b
+    from-is b = subst (λ (r : Reading). Some P (r .recs)) (read-by s p (N.Record kind index from len next) e) b
 
     from-with : P (recAt s (scanOf s p) index from len) ⊎ From next → From p
-    from-with b = subst (λ (r : Reading). Some P (r .recs)) (sym (read-by s p (N.Record index from len next) e)) b
+    from-with b = subst (λ (r : Reading). Some P (r .recs)) (sym (read-by s p (N.Record kind index from len next) e)) b
 
 module _ (s : List ℕ) (i : ℕ) where
   abbrev Is : Rec → Type 0
@@ -74,14 +74,14 @@ module _ (s : List ℕ) (i : ℕ) where
 
   -- climbing gives the stack of a walk, reversed
   abbrev Climbs : Walk → Type 0
-  Climbs w = climbOf s i ≡ reachedBy (chainOf (reverse (w .stack)))
+  Climbs w = climbOf s i ≡ reachedBy (reverse (w .stack))
 
   -- whether a record begins at i, and whether the walk answers; and where it is an opener, what climbing gives
   data Met (p : ℕ) (st : List Open) : Type 0 where
     found : Begins s p i → walk-from p st .out ≡ Answer → (OpenerBegins s p i → Climbs (walk-from p st)) → Met p st
     lost : (Begins s p i → ⊥) → walk-from p st .out ≡ Refused (refusal 14 0 0) → Met p st
 
-  module _ (p index from len next : ℕ) (st : List Open) (h : scanOf s p .next ≡ N.Record index from len next) where
+  module _ (p index from len next : ℕ) (st : List Open) {kind : ℕ} (h : scanOf s p .step ≡ N.Record kind index from len next) where
     -- the record of p's step lies before i
     past : (gs : List Open) → index < i → walk-from p st ≡ seen (recAt s (scanOf s p) index from len) (walk-from next gs) → Met next gs → Met p st
     past gs l w (found b q c) =
@@ -89,7 +89,7 @@ module _ (s : List ℕ) (i : ℕ) where
         (λ o.
         elim (from-is s IsOpener p index from len next h o) [
           | inl e ↦ (let f : index ≡ i = e .0 in absurd (omega arith))
-          | inr d ↦ c d ∙ ap (λ (x : List ℕ). reachedBy (chainOf (reverse x))) (sym (same-stack w))
+          | inr d ↦ c d ∙ ap (λ (x : List ℕ). reachedBy (reverse x)) (sym (same-stack w))
         ])
     past gs l w (lost d q) =
         lost (λ b. elim (from-is s Is p index from len next h b) [ inl e ↦ absurd (omega arith) | inr c ↦ d c ]) (same-out w ∙ q)
@@ -101,7 +101,7 @@ module _ (s : List ℕ) (i : ℕ) where
         let f : next ≤ i = some-from P i at next (readOf s next .recs) (rising s next) b in
         absurd (omega arith)
 
-    meets : (index < i → Met p st) → (index ≡ i → nestingRoleOf (bytesAt s from len) ≡ Opens → climbOf s i ≡ reachedBy (chainOf (reverse (indexes st)))) → Met p st
+    meets : (index < i → Met p st) → (index ≡ i → nestingRoleOf (bytesAt s from len) ≡ Opens → climbOf s i ≡ reachedBy (reverse (indexes st))) → Met p st
     meets before climbs = by (order index i)
       where
         by : Order index i → Met p st
@@ -111,7 +111,7 @@ module _ (s : List ℕ) (i : ℕ) where
             found (from-with s Is p index from len next h (inl e)) (same-out w)
             (λ o.
             elim (from-is s IsOpener p index from len next h o) [
-              | inl d ↦ climbs e (d .1) ∙ ap (λ (x : List ℕ). reachedBy (chainOf (reverse x))) (sym (same-stack w))
+              | inl d ↦ climbs e (d .1) ∙ ap (λ (x : List ℕ). reachedBy (reverse x)) (sym (same-stack w))
               | inr d ↦ absurd (later IsOpener (λ r x. x .0) (omega arith) d)
             ])
         by (more l) =
@@ -140,7 +140,7 @@ module _ (s : List ℕ) (i : ℕ) where
       meets p index from len next st h
       (λ a. past p index from len next st h (openAt index end ∷ st) a (walk-open s i p (indexes st) index from len next h a r room)
       (met next (openAt index end ∷ st) o (over (omega arith) z opener below) d))
-      (λ e q. subst (λ (k : ℕ). climbOf s k ≡ reachedBy (chainOf (reverse (indexes st)))) e (climb-opener s index st opener m below))
+      (λ e q. subst (λ (k : ℕ). climbOf s k ≡ reachedBy (reverse (indexes st))) e (climb-opener s index st opener m below))
   met p _ m u (closes {index = index} {from = from} {len = len} {next = next} {o = o} {st = st} h r t d) =
       let y = step-fits s p index from len next h in
       meets p index from len next (o ∷ st) h
@@ -162,9 +162,10 @@ both-answer j w a b e l =
     (record { walking-answers = refl; jumping-answers = refl; walking-finds = refl; jumping-finds = ap chainOf e; jumping-reads-no-more = l })
 
 climbs-them : (s : List ℕ) (i : ℕ) (w : Walk) → Climbs s i w → ClimbsThem (chainOf (w .stack)) (climbOf s i)
+unfolding chainOf
 climbs-them s i w e =
-    rw (e ∙ ap reachedBy (reversed-stack (w .stack)))
-    (record { climbing-answers = refl; climbing-finds = refl; as-many-links = refl })
+    rw e
+    (record { climbing-answers = refl; climbing-finds = reversed-stack (w .stack); as-many-links = length-reverse (w .stack) })
 
 module _ (s : List ℕ) (start i : ℕ) where
   abbrev jumped : Walk

@@ -9,6 +9,7 @@ use native.Mathlib.Omega.{arith}
 use lib.ListN.{length, take, drop}
 use lib.Dec.{leb, eqb}
 use borrow.Author.Tests.{leb-false, eqb-true, eqb-false, ne-eqb}
+use Rattle.common.specs.Reader.{refusal}
 use Rattle.constants.specs.declared.Role.{Role}
 use Rattle.constants.specs.declared.Role.the-variants.{Neither, Opens, Closes}
 use Rattle.iter.specs.Step.{scanOf}
@@ -21,7 +22,7 @@ use Rattle.links.specs.Links.{linksOf}
 use Rattle.links.specs.declared.Links.{Links}
 use Rattle.links.specs.declared.Links.the-variants.{Unread, Read}
 use Rattle.check_nesting.specs.declared.act.Act.{Act}
-use Rattle.check_nesting.specs.declared.act.Act.the-variants.{Push, Pop, Refused as Stop}
+use Rattle.check_nesting.specs.declared.act.Act.the-variants as A
 use Rattle.check_nesting.specs.Act.{openOf, actOfRole, actOf}
 use Rattle.check_nesting.specs.declared.Counts.{Counts}
 use Rattle.check_nesting.specs.declared.Checked.the-variants.{Good}
@@ -37,20 +38,20 @@ abbrev pub openAt : ℕ → ℕ → Open
 openAt index end = record { index = index; end = end }
 
 pub data Nest (s : List ℕ) : ℕ → List Open → Type 0 where
-  done : {p q : ℕ} → scanOf s p .next ≡ N.End q → Nest s p []
-  passes : {p index from len next : ℕ} {st : List Open} → scanOf s p .next ≡ N.Record index from len next →
+  done : {p q : ℕ} → scanOf s p .step ≡ N.End q → Nest s p []
+  passes : {p kind index from len next : ℕ} {st : List Open} → scanOf s p .step ≡ N.Record kind index from len next →
       nestingRoleOf (bytesAt s from len) ≡ Neither → Nest s next st → Nest s p st
-  opens : {p index from len next parent end : ℕ} {st : List Open} → scanOf s p .next ≡ N.Record index from len next →
+  opens : {p kind index from len next parent end : ℕ} {st : List Open} → scanOf s p .step ≡ N.Record kind index from len next →
       nestingRoleOf (bytesAt s from len) ≡ Opens → linksOf (bytesAt s from len) ≡ Read parent end →
       0 < index → parent ≡ innerIndex st → length st < 64 → Nest s next (openAt index end ∷ st) → Nest s p st
-  closes : {p index from len next : ℕ} {o : Open} {st : List Open} → scanOf s p .next ≡ N.Record index from len next →
+  closes : {p kind index from len next : ℕ} {o : Open} {st : List Open} → scanOf s p .step ≡ N.Record kind index from len next →
       nestingRoleOf (bytesAt s from len) ≡ Closes → o .end ≡ index → Nest s next st → Nest s p (o ∷ st)
 
 module _ (s : List ℕ) (u : Counts) where
   abbrev Nests : ℕ → Reading → Type 0
   Nests at r = (st : List Open) (n : Counts) → checkFrom r st n ≡ Good u → Nest s at st
 
-  module _ (at index from len next : ℕ) (e : scanOf s at .next ≡ N.Record index from len next) (ih : Nests next (readOf s next)) where
+  module _ (at kind index from len next : ℕ) (e : scanOf s at .step ≡ N.Record kind index from len next) (ih : Nests next (readOf s next)) where
     abbrev bytes : List ℕ
     bytes = bytesAt s from len
 
@@ -64,7 +65,7 @@ module _ (s : List ℕ) (u : Counts) where
     at-opener st n o (Read parent end) g h = by (eqb index 0) refl (eqb parent (innerIndex st)) refl (leb 64 (length st)) refl h
       where
         by : (a : Bool) → eqb index 0 ≡ a → (b : Bool) → eqb parent (innerIndex st) ≡ b → (c : Bool) → leb 64 (length st) ≡ c →
-            Then st n (cond a (Stop 7) (cond b (cond c (Stop 9) (Push end)) (Stop 8))) → Nest s at st
+            Then st n (cond a (A.Refused (refusal 7 index 0)) (cond b (cond c (A.Refused (refusal 9 index 0)) (A.Push end)) (A.Refused (refusal 8 index 0)))) → Nest s at st
         by true ea b eb c ec t = absurd (refused-not-good t)
         by false ea false eb c ec t = absurd (refused-not-good t)
         by false ea true eb true ec t = absurd (refused-not-good t)
@@ -73,11 +74,11 @@ module _ (s : List ℕ) (u : Counts) where
             opens e o g (omega arith) (eqb-true _ _ eb) (leb-false _ _ ec) (ih _ _ t)
 
     at-closer : (st : List Open) (n : Counts) → nestingRoleOf bytes ≡ Closes →
-        Then st n (cond (eqb (length st) 0) (Stop 10) (cond (eqb (innerEnd st) index) Pop (Stop 11))) → Nest s at st
+        Then st n (cond (eqb (length st) 0) (A.Refused (refusal 10 index 0)) (cond (eqb (innerEnd st) index) A.Pop (A.Refused (refusal 11 index 0)))) → Nest s at st
     at-closer [] n o h = absurd (refused-not-good h)
     at-closer (x ∷ st) n o h = by (eqb (suc (length st)) 0) (eqb (x .end) index) refl h
       where
-        by : (a b : Bool) → eqb (x .end) index ≡ b → Then (x ∷ st) n (cond a (Stop 10) (cond b Pop (Stop 11))) → Nest s at (x ∷ st)
+        by : (a b : Bool) → eqb (x .end) index ≡ b → Then (x ∷ st) n (cond a (A.Refused (refusal 10 index 0)) (cond b A.Pop (A.Refused (refusal 11 index 0)))) → Nest s at (x ∷ st)
         by true b eb t = absurd (refused-not-good t)
         by false true eb t = closes e o (eqb-true _ _ eb) (ih st _ t)
         by false false eb t = absurd (refused-not-good t)
@@ -92,7 +93,7 @@ module _ (s : List ℕ) (u : Counts) where
     unfolding checkFrom checkOn actOf
     at-record st n h = at-role st n (nestingRoleOf bytes) refl h
 
-  at-last : (at q : ℕ) → scanOf s at .next ≡ N.End q → (st : List Open) (n : Counts) → onLast (scanOf s at) (N.End q) st n ≡ Good u → Nest s at st
+  at-last : (at q : ℕ) → scanOf s at .step ≡ N.End q → (st : List Open) (n : Counts) → onLast (scanOf s at) (N.End q) st n ≡ Good u → Nest s at st
   unfolding endOf
   at-last at q e [] n h = done e
   at-last at q e (o ∷ st) n h = absurd (refused-not-good (rw (ne-eqb (suc (length st)) 0 (omega arith)) at h))

@@ -12,8 +12,9 @@ use Rattle.constants.specs.declared.Role.the-variants.{Opens}
 use Rattle.iter.specs.Step.{scanOf, stepOf}
 use Rattle.iter.specs.declared.Next.the-variants as N
 use Rattle.iter.specs.declared.Scan.{Scan}
-use Rattle.iter.proofs.Records.{again}
+use Rattle.iter.proofs.Records.{again, kind-of}
 use Rattle.chain.specs.Chain.{chainOf}
+use Rattle.constants.specs.Kind.{nestingRole}
 use Rattle.constants.specs.Raw.{nestingRoleOf}
 use Rattle.links.specs.Links.{linksOf}
 use Rattle.links.specs.declared.Links.the-variants.{Read}
@@ -27,12 +28,12 @@ use Rattle.agreement.specs.Agreement.{reversed}
 use Rattle.agreement.proofs.Nest.{bytesAt}
 
 -- an opener that a step yields is found at its own index, with its parent field
-pub opener-found : (s : List ℕ) (p index from len next parent end : ℕ) → scanOf s p .next ≡ N.Record index from len next →
+pub opener-found : (s : List ℕ) (p index from len next parent end : ℕ) {kind : ℕ} → scanOf s p .step ≡ N.Record kind index from len next →
     nestingRoleOf (bytesAt s from len) ≡ Opens → linksOf (bytesAt s from len) ≡ Read parent end → openerOf s index ≡ Parent parent
-unfolding openerOf stepOf
+unfolding openerOf stepOf nestingRoleOf
 opener-found s p index from len next parent end h r g =
-    ap (λ (c : Scan). openerOn s index (c .next)) (again s index from len next p h)
-    ∙ rw (eq-eqb index index refl, r, g)
+    ap (λ (c : Scan). openerOn s index (c .step)) (again s index from len next p h)
+    ∙ rw (eq-eqb index index refl, ap nestingRole (kind-of s p index from len next h) ∙ r, g)
 
 -- below p each open opener's parent field is the index of the next one out, which lies lower, and the outermost's is 0
 pub data Up (s : List ℕ) : ℕ → List Open → Type 0 where
@@ -47,7 +48,7 @@ pub up-out : {s : List ℕ} {p : ℕ} (q : ℕ) {o : Open} {st : List Open} → 
 up-out q l (over a z e u) = up-later q (omega arith) u
 
 climb-up : (s : List ℕ) (room k : ℕ) (st : List Open) (links : List ℕ) → length st ≤ room → Up s k st →
-    climbOn room s k (innerIndex st) links ≡ reachedBy (chainOf (reverseAux (indexes st) links))
+    climbOn room s k (innerIndex st) links ≡ reachedBy (reverseAux (indexes st) links)
 climb-up s room k st links l top = climb-top s k 0 links room refl
 climb-up s zero k st links l (over a z e u) = absurd (not-suc-le-zero l)
 climb-up s (suc room) k (o ∷ st) links l (over a z e u) =
@@ -55,7 +56,7 @@ climb-up s (suc room) k (o ∷ st) links l (over a z e u) =
     ∙ climb-up s room (o .index) st (o .index ∷ links) (omega arith) u
 
 pub climb-opener : (s : List ℕ) (i : ℕ) (st : List Open) → openerOf s i ≡ Parent (innerIndex st) → length st ≤ 64 → Up s i st →
-    climbOf s i ≡ reachedBy (chainOf (reverse (indexes st)))
+    climbOf s i ≡ reachedBy (reverse (indexes st))
 unfolding climbOf
 climb-opener s i st e l u = ap (climbBy s i) e ∙ climb-up s 64 i st [] l u
 

@@ -38,24 +38,26 @@ through-more a b =
     record { outs = a .outs ∙ b .outs; stacks = a .stacks ∙ b .stacks; more = omega arith }
 
 pub record Skip (s : List ℕ) (i p : ℕ) (gs : List Open) (e : ℕ) (fs : List Open) : Type 0 where
+  pub kind : ℕ
   pub start : ℕ
   pub long : ℕ
   pub after : ℕ
   pub from : p ≤ e
-  pub lands : scanOf s e .next ≡ N.Record e start long after
+  pub lands : scanOf s e .step ≡ N.Record kind e start long after
   pub closer : nestingRoleOf (bytesAt s start long) ≡ Closes
   pub rest : Nest s after fs
   pub walked : e < i → Through (walkAt s i p (indexes gs)) (walkAt s i after (indexes fs))
 
 module _ (s : List ℕ) (i : ℕ) (o : Open) (fs : List Open) where
   -- one more record, at index, in front of what is skipped
-  more-skip : {p index from len next : ℕ} (gs hs : List Open) → scanOf s p .next ≡ N.Record index from len next →
+  more-skip : {p kind index from len next : ℕ} (gs hs : List Open) → scanOf s p .step ≡ N.Record kind index from len next →
       (index < i → walkAt s i p (indexes gs) ≡ seen (recAt s (scanOf s p) index from len) (walkAt s i next (indexes hs))) →
       Skip s i next hs (o .end) fs → Skip s i p gs (o .end) fs
-  more-skip {p} {index} {from} {len} {next} gs hs h w r =
+  more-skip {p} {kind} {index} {from} {len} {next} gs hs h w r =
       let y = step-fits s p index from len next h in
       let f : next ≤ o .end = r .from in
       record {
+        kind = r .kind;
         start = r .start;
         long = r .long;
         after = r .after;
@@ -75,17 +77,18 @@ module _ (s : List ℕ) (i : ℕ) (o : Open) (fs : List Open) where
       more-skip gs (openAt index end ∷ gs) h
       (λ l. walk-open s i p (indexes gs) index from len next h l r (let f : length (indexes gs) ≡ length gs = length-each (λ o. o .index) gs in omega arith))
       (skip (openAt index end ∷ pre) d (ap (λ (l : List Open). openAt index end ∷ l) q))
-  skip [] {p} (closes {index = index} {from = from} {len = len} {next = next} {o = x} {st = gs} h r u d) q =
+  skip [] {p} (closes {kind = kind} {index = index} {from = from} {len = len} {next = next} {o = x} {st = gs} h r u d) q =
       let a : x ≡ o = cc in
       let c : gs ≡ fs = cc in
       let v : index ≡ o .end = sym u ∙ ap (λ (y : Open). y .end) a in
       let y = step-fits s p index from len next h in
       record {
+        kind = kind;
         start = from;
         long = len;
         after = next;
         from = omega arith;
-        lands = rw v at (ap (λ (k : Scan). k .next) (again s index from len next p h));
+        lands = rw v at (ap (λ (k : Scan). k .step) (again s index from len next p h));
         closer = r;
         rest = rw c at d;
         walked = λ l.

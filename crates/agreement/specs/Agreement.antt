@@ -18,7 +18,6 @@ use Rattle.chain.specs.declared.finding.Finding.{Finding}
 use Rattle.chain.specs.Finding.{refusedBy}
 use Rattle.walk.specs.Walk.{walkFrom, walkOf}
 use Rattle.jump.specs.Jump.{jumpOf}
-use Rattle.climb.specs.declared.Ascent.{Ascent}
 use Rattle.climb.specs.Climb.{climbOf}
 use Rattle.agreement.specs.declared.Answers.{Answers}
 
@@ -51,7 +50,7 @@ pub record BothAnswer (scopes : Chain) (walked jumped : Finding) : Type 0 where
   pub jumping-answers : jumped .out ≡ Answer
   pub walking-finds : walked .chain ≡ scopes
   pub jumping-finds : jumped .chain ≡ scopes
-  pub jumping-reads-no-more : jumped .read ≤ walked .read
+  pub jumping-reads-no-more : jumped .count ≤ walked .count
 
 -- Both refuse, alike, with 14, which carries position 0 from both finders.
 pub record BothRefuse (walked jumped : Finding) : Type 0 where
@@ -59,10 +58,10 @@ pub record BothRefuse (walked jumped : Finding) : Type 0 where
   pub jumping-refuses : jumped ≡ refusedBy (refusal 14 0 0)
 
 -- The parent fields, climbed, give that list reversed, without a refusal and with as many links as the list has scopes.
-pub record ClimbsThem (scopes : Chain) (climbed : Ascent) : Type 0 where
+pub record ClimbsThem (scopes : Chain) (climbed : Finding) : Type 0 where
   pub climbing-answers : climbed .out ≡ Answer
   pub climbing-finds : climbed .chain ≡ reversed scopes
-  pub as-many-links : climbed .links ≡ scopes .depth
+  pub as-many-links : climbed .count ≡ scopes .depth
 
 pub record Agreement (s : List ℕ) (start i : ℕ) (a : Answers) : Type 0 where
   pub if-a-record-begins : Begins s start i → BothAnswer (enclosing s start i) (a .walked) (a .jumped)

@@ -6,14 +6,20 @@ ghost use mathlib.Core.Path.{_≡_};
 ghost use Rattle.agreement.specs.Agreement.{answersOf, Condition3};
 use chain::finding::Finding;
 use check_nesting::Checked;
-use climb::Ascent;
 
 // What the four calls return.
 pub struct Answers {
+    // The nesting check's, from the start.
     pub checked: Checked,
+
+    // The walk finder's, from the start to the position.
     pub walked: Finding,
+
+    // The jump finder's, from the start to the position.
     pub jumped: Finding,
-    pub climbed: Ascent,
+
+    // The climb finder's, from the position.
+    pub climbed: Finding,
 }
 
 // Asks the check of a stream from a start, and the three finders of a position in it.

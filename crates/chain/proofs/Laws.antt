@@ -7,7 +7,7 @@ use native.Mathlib.Omega.{arith}
 use native.Mathlib.Numerals.{add-one}
 use lib.ListN.{length, set, getD, replicate, length-reverse}
 use lib.Seq.{set-at, getD-at}
-use borrow.Author.Tests.{lt-leb, ne-eqb}
+use borrow.Author.Tests.{ne-eqb}
 use Rattle.chain.specs.Chain.{chainOf, topOf}
 use Rattle.chain.specs.declared.Chain.{Chain}
 
@@ -65,13 +65,17 @@ pop-stack (x ∷ st) e h =
     ∙ rw (sub-one-suc (length st))
     (λ i. record { at = (at-stack st x 0 _ (places x st) ∙ unused st (let l : length st < 64 = omega arith in l)) i; depth = length st })
 
-pub top-stack : (st : List ℕ) (x : ℕ) → length st < 64 → topOf (chainOf (x ∷ st)) ≡ x
+-- the last position of a chain
+abbrev pub top : Chain → ℕ
+top c = topOf (c .at) (c .depth)
+
+pub top-stack : (st : List ℕ) (x : ℕ) → top (chainOf (x ∷ st)) ≡ x
 unfolding topOf chainOf
-top-stack st x h =
-    rw (ne-eqb (suc (length st)) 0 (omega arith), sub-one-suc (length st), lt-leb 64 (length st) h)
+top-stack st x =
+    rw (ne-eqb (suc (length st)) 0 (omega arith), sub-one-suc (length st))
     (ap (λ (l : List ℕ). getD l (length st) 0) (places x st) ∙ getD-at (reverse st) x _ 0 (length st) (length-reverse st))
 
-pub top-none : topOf (chainOf []) ≡ 0
+pub top-none : top (chainOf []) ≡ 0
 unfolding topOf chainOf
 top-none = refl
 

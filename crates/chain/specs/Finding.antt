@@ -1,8 +1,7 @@
--- What the walk finder and the jump finder answer (document 01, "Walk finder", "Jump finder" and the chains).
+-- What a finder answers (document 01, "Walk finder", "Jump finder", "Climb finder" and the chains).
 use Prim.Native.Nat.{ℕ}
 use mathlib.Core.List.{List, [], _∷_}
 use lib.ListN.{length}
-use Rattle.common.specs.Reader.{refusal}
 use Rattle.common.specs.declared.Refusal.{Refusal}
 use Rattle.iter.specs.Reading.{Rec}
 use Rattle.chain.specs.Chain.{chainOf}
@@ -21,24 +20,25 @@ pub record Walk : Type 0 where
 abbrev pub seen : Rec → Walk → Walk
 seen r w = record { out = w .out; stack = w .stack; visited = r ∷ w .visited }
 
--- a walk that ends here with a refusal; one of the finder's own carries no position
-abbrev pub refuses : Refusal → Walk
-refuses e = record { out = Refused e; stack = []; visited = [] }
+-- a walk that ends: at a record, with the stack there, or with a refusal
+abbrev pub foundAt : Rec → List ℕ → Walk
+foundAt r st = record { out = Answer; stack = st; visited = r ∷ [] }
 
-abbrev pub stops : ℕ → Walk
-stops number = refuses (refusal number 0 0)
+abbrev pub refusedWith : Refusal → Walk
+refusedWith e = record { out = Refused e; stack = []; visited = [] }
 
+-- Both finders also return the number of records read; climbing returns its links.
 abbrev pub foundBy : Chain → ℕ → Finding
-foundBy chain read = record { out = Answer; chain = chain; read = read }
+foundBy chain count = record { out = Answer; chain = chain; count = count }
 
 -- A refusal carries no more: the chain is empty and the count 0.
 unfoldable pub refusedBy : Refusal → Finding
-refusedBy e = record { out = Refused e; chain = chainOf []; read = 0 }
+refusedBy e = record { out = Refused e; chain = chainOf []; count = 0 }
 
 -- A walk that answers gives the chain of its stack, and the number of records read, which is the length of the list of visited ones.
 abbrev pub answerOf : Outcome → List ℕ → ℕ → Finding
-answerOf Answer stack read = foundBy (chainOf stack) read
-answerOf (Refused e) stack read = refusedBy e
+answerOf Answer stack count = foundBy (chainOf stack) count
+answerOf (Refused e) stack count = refusedBy e
 
 abbrev pub findingOf : Walk → Finding
 findingOf w = answerOf (w .out) (w .stack) (length (w .visited))

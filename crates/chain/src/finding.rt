@@ -1,28 +1,34 @@
-// What the walk finder and the jump finder return. The chain lists the outermost scope first.
+// What a finder returns. Walking and jumping list the outermost scope first, climbing the innermost.
 ghost use mathlib.Core.Path.{_≡_};
-ghost use Rattle.common.specs.Reader.{refusal};
 ghost use Rattle.chain.specs.Finding.{foundBy, refusedBy};
 use super::Chain;
 use common::Refusal;
 
 // Whether a finder answers.
 pub enum Outcome {
+    // It does, with a chain and a count.
     Answer,
+
+    // It refuses, for this reason.
     Refused(Refusal),
 }
 
-// What a finder returns: the chain and the number of records read. At a refusal the chain is empty and the count 0.
+// What a finder returns. At a refusal the chain is empty and the count 0.
 pub struct Finding {
     pub out: Outcome,
+
+    // The indexes of the scopes that enclose the position.
     pub chain: Chain,
-    pub read: usize,
+
+    // The number of records read; of a climb, of links.
+    pub count: usize,
 }
 
-pub fn found(chain: Chain, read: usize) -> Finding
-    ensures { λ r. ⌜ r ≡ foundBy chain read ⌝ }
+pub fn found(chain: Chain, count: usize) -> Finding
+    ensures { λ r. ⌜ r ≡ foundBy chain count ⌝ }
 {
     let out = Outcome::Answer;
-    Finding { out, chain, read }
+    Finding { out, chain, count }
 }
 
 pub fn refused(e: Refusal) -> Finding
@@ -33,18 +39,6 @@ pub fn refused(e: Refusal) -> Finding
     Finding {
         out,
         chain,
-        read: 0,
+        count: 0,
     }
-}
-
-// A refusal that is the finder's own, and not a step's, carries no position.
-pub fn stopped(number: u8) -> Finding
-    ensures { λ r. ⌜ r ≡ refusedBy (refusal number 0 0) ⌝ }
-{
-    let e = Refusal {
-        number,
-        position: 0,
-        detail: 0,
-    };
-    refused(e)
 }

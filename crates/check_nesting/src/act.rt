@@ -1,33 +1,53 @@
-// What the nesting check does at one record, and the innermost of the open scopes: the loop of crate check_nesting does as it says.
+// What the nesting check does at one record: the loop of crate check_nesting does as it says.
 ghost use mathlib.Core.Path.{_≡_};
+ghost use Prim.Native.Nat.{_≤_};
+ghost use Rattle.chain.specs.Chain.{topOf};
 ghost use Rattle.constants.specs.declared.Role.the-variants.{Opens};
-ghost use Rattle.constants.specs.Raw.{nestingRoleOf};
+ghost use Rattle.constants.specs.Raw.{rawKind, nestingRoleOf};
 ghost use Rattle.links.specs.Links.{linksOf};
-ghost use Rattle.check_nesting.specs.Act.{topAt, actOf, openOf};
+ghost use Rattle.check_nesting.specs.Act.{actOf, openOf};
+use super::stack::innermost;
+use common::Refusal;
 use constants::Role;
 use links::Links;
 
-// What the check does with a record: an opener comes with its end field, a refusal with its number.
+// What the check does with a record.
 pub enum Act {
+    // It goes on: the record opens no scope and closes none.
     Stay,
+
+    // The record opens a scope, and this is its end field.
     Push(u32),
+
+    // The record closes the innermost scope.
     Pop,
-    Refused(u8),
+
+    // The record breaks a rule.
+    Refused(Refusal),
 }
 
-// The act at a record, with so many openers open and their indexes and end fields. The innermost is looked at only where the record
+// The act at a record of this kind, with so many openers open and their indexes and end fields. The innermost is looked at only where the record
 // opens or closes a scope.
-pub fn act_at(rec: &[u8], index: usize, opens: &[u32; 64], ends: &[u32; 64], depth: usize) -> Act
-    ensures { λ r. ⌜ r ≡ actOf (now (rec .entry)) index depth (topAt (now (opens .entry)) depth) (topAt (now (ends .entry)) depth) ⌝ }
+pub fn act_at<'a>(
+    kind: u16,
+    rec: &[u8],
+    index: usize,
+    opens: &'a [u32; 64],
+    ends: &'a [u32; 64],
+    depth: usize,
+) -> Act
+    requires { ⌜ kind ≡ rawKind (now rec) ⌝ }
+    requires { ⌜ depth ≤ 64 ⌝ }
+    ensures { λ r. ⌜ r ≡ actOf (now (rec .entry)) index depth (topOf (now (opens .entry)) depth) (topOf (now (ends .entry)) depth) ⌝ }
 {
-    match constants::kind::nesting_role(rec) {
+    match constants::nesting_role(kind) {
         Role::Opens => return open_at(rec, index, depth, innermost(opens, depth)),
         Role::Closes => {
             if depth == 0 {
-                return Act::Refused(10);
+                return Act::Refused(Refusal::at(Refusal::NOTHING_OPEN, index));
             }
             if innermost(ends, depth) as usize != index {
-                return Act::Refused(11);
+                return Act::Refused(Refusal::at(Refusal::WRONG_END, index));
             }
             return Act::Pop;
         }
@@ -40,32 +60,18 @@ fn open_at(rec: &[u8], index: usize, depth: usize, inner: u32) -> Act
     ensures { λ r. ⌜ r ≡ openOf (linksOf (now (rec .entry))) index depth inner ⌝ }
 {
     match links::links_of(rec) {
-        Links::Unread => return Act::Refused(6),
+        Links::Unread => return Act::Refused(Refusal::at(Refusal::UNREADABLE_OPENER, index)),
         Links::Read { parent, end } => {
             if index == 0 {
-                return Act::Refused(7);
+                return Act::Refused(Refusal::at(Refusal::OPENER_AT_0, index));
             }
             if parent != inner {
-                return Act::Refused(8);
+                return Act::Refused(Refusal::at(Refusal::WRONG_PARENT, index));
             }
             if 64 <= depth {
-                return Act::Refused(9);
+                return Act::Refused(Refusal::at(Refusal::TOO_DEEP, index));
             }
             return Act::Push(end);
         }
     }
-}
-
-// The last of the first so many places, 0 if none.
-pub fn innermost(at: &[u32; 64], depth: usize) -> u32
-    ensures { λ r. ⌜ r ≡ topAt (now (at .entry)) depth ⌝ }
-{
-    if depth == 0 {
-        return 0;
-    }
-    let last = depth - 1;
-    if 64 <= last {
-        return 0;
-    }
-    at[last]
 }

@@ -1,30 +1,44 @@
 // The nesting check: whether the links of a stream's openers say how its records lie in one another, and what it holds.
-//
-// The stack of open openers is the chain of their indexes, and their end fields in the same places of an array, both changed in place.
 pub mod act;
+pub mod stack;
 
 ghost use mathlib.Core.Path.{_≡_};
-ghost use Prim.Native.Nat.{_+_, _-_, _<_, _≤_, _^_};
-ghost use lib.ListN.{set};
-ghost use Rattle.check_nesting.specs.Check.{countedOf, openedOf, noCounts, endOf, refuses, checkOf, addsUp};
+ghost use Prim.Native.Nat.{_+_, _<_, _^_};
+ghost use Rattle.check_nesting.specs.Check.{countedOf, openedOf, noCounts, endOf, checkOf, addsUp};
 use act::Act;
-use chain::Chain;
+use act::act_at;
 use common::Refusal;
 use iter::Next;
 use iter::Scan;
+use stack::Stack;
 
-// Records yielded and their bytes, records passed over and theirs, openers, deepest nesting.
+// What a stream holds, from the start that is checked on.
 pub struct Counts {
+    // The records that steps yield.
     pub records: usize,
+
+    // Their bytes, length fields included.
     pub bytes: usize,
-    pub passed: usize,
-    pub skipped: usize,
+
+    // The fillers passed over.
+    pub fillers: usize,
+
+    // Their bytes, length fields included.
+    pub filler_bytes: usize,
+
+    // The records that open a scope.
     pub openers: usize,
+
+    // How many scopes are open where the most are.
     pub deepest: usize,
 }
 
+// What the nesting check answers.
 pub enum Checked {
+    // The stream nests, and holds so much.
     Good(Counts),
+
+    // It does not, for this reason.
     Refused(Refusal),
 }
 
@@ -34,8 +48,8 @@ fn no_counts() -> Counts
     Counts {
         records: 0,
         bytes: 0,
-        passed: 0,
-        skipped: 0,
+        fillers: 0,
+        filler_bytes: 0,
         openers: 0,
         deepest: 0,
     }
@@ -45,15 +59,15 @@ fn no_counts() -> Counts
 fn counted(n: Counts, c: Scan, len: usize) -> Counts
     requires { ⌜ n .records + 1 < 2 ^ 64 ⌝ }
     requires { ⌜ n .bytes + (2 + len) < 2 ^ 64 ⌝ }
-    requires { ⌜ n .passed + c .passed < 2 ^ 64 ⌝ }
-    requires { ⌜ n .skipped + c .skipped < 2 ^ 64 ⌝ }
-    ensures { λ r. ⌜ r ≡ countedOf n (c .passed) (c .skipped) len ⌝ }
+    requires { ⌜ n .fillers + c .fillers < 2 ^ 64 ⌝ }
+    requires { ⌜ n .«filler_bytes» + c .«filler_bytes» < 2 ^ 64 ⌝ }
+    ensures { λ r. ⌜ r ≡ countedOf n (c .fillers) (c .«filler_bytes») len ⌝ }
 {
     Counts {
         records: n.records + 1,
         bytes: n.bytes + (2 + len),
-        passed: n.passed + c.passed,
-        skipped: n.skipped + c.skipped,
+        fillers: n.fillers + c.fillers,
+        filler_bytes: n.filler_bytes + c.filler_bytes,
         openers: n.openers,
         deepest: n.deepest,
     }
@@ -75,63 +89,40 @@ fn opened(n: Counts, depth: usize) -> Counts
 
 // The answer at End, which the step c came to.
 fn at_end(n: Counts, c: Scan, depth: usize, inner: u32) -> Checked
-    requires { ⌜ n .passed + c .passed < 2 ^ 64 ⌝ }
-    requires { ⌜ n .skipped + c .skipped < 2 ^ 64 ⌝ }
-    ensures { λ r. ⌜ r ≡ endOf n (c .passed) (c .skipped) depth inner ⌝ }
+    requires { ⌜ n .fillers + c .fillers < 2 ^ 64 ⌝ }
+    requires { ⌜ n .«filler_bytes» + c .«filler_bytes» < 2 ^ 64 ⌝ }
+    ensures { λ r. ⌜ r ≡ endOf n (c .fillers) (c .«filler_bytes») depth inner ⌝ }
 {
     if depth == 0 {
         return Checked::Good(Counts {
             records: n.records,
             bytes: n.bytes,
-            passed: n.passed + c.passed,
-            skipped: n.skipped + c.skipped,
+            fillers: n.fillers + c.fillers,
+            filler_bytes: n.filler_bytes + c.filler_bytes,
             openers: n.openers,
             deepest: n.deepest,
         });
     }
-    refused(12, inner as usize)
+    Checked::Refused(Refusal::at(Refusal::LEFT_OPEN, inner as usize))
 }
 
-fn refused(number: u8, position: usize) -> Checked
-    ensures { λ r. ⌜ r ≡ refuses number position ⌝ }
-{
-    Checked::Refused(Refusal {
-        number,
-        position,
-        detail: 0,
-    })
-}
-
-// Frees the place of the innermost opener; how many are open then.
-fn pop(opens: &mut [u32; 64], ends: &mut [u32; 64], depth: usize) -> usize
-    requires { ⌜ 0 < depth ⌝ }
-    requires { ⌜ depth ≤ 64 ⌝ }
-    ensures { λ r. ⌜ r ≡ depth - 1 ⌝ }
-    ensures { λ r. ⌜ now (opens .exit) ≡ set (now (opens .entry)) (depth - 1) 0 ⌝ }
-    ensures { λ r. ⌜ now (ends .exit) ≡ set (now (ends .entry)) (depth - 1) 0 ⌝ }
-{
-    let last = depth - 1;
-    opens[last] = 0;
-    ends[last] = 0;
-    last
-}
-
+// Whether the stream nests from the start on.
 pub fn check(s: &[u8], start: usize) -> Checked
     ensures { λ r. ⌜ r ≡ checkOf (now (s .entry)) start ⌝ }
     ensures { λ r. ⌜ addsUp r (now (s .entry)) start ⌝ }
 {
-    let mut opens = Chain::new();
-    let mut ends = [0u32; 64];
+    let mut st = Stack::new();
     let mut n = no_counts();
     let mut at = start;
     loop {
         let c = iter::scan_at(s, at);
-        let found = c.next;
-        let depth = opens.depth;
+        let found = c.step;
+        let depth = st.opens.depth;
         match found {
-            Next::End(_) => return at_end(n, c, depth, act::innermost(&opens.at, depth)),
+            Next::End(_) => return at_end(n, c, depth, stack::innermost(&st.opens.at, depth)),
             Next::Refused(e) => return Checked::Refused(e),
             Next::Record {
+                kind,
                 index,
                 start: from,
                 len,
@@ -139,16 +130,18 @@ pub fn check(s: &[u8], start: usize) -> Checked
             } => {
                 n = counted(n, c, len);
                 at = next;
-                match act::act_at(&s[from..next], index, &opens.at, &ends, depth) {
+                match act_at(kind, &s[from..next], index, &st.opens.at, &st.ends, depth) {
                     Act::Stay => {}
                     Act::Push(end) => {
-                        opens.at[depth] = index as u32;
-                        opens.depth = depth + 1;
-                        ends[depth] = end;
+                        st.opens.depth = stack::push(&mut st.opens.at, depth, index as u32);
+                        st.ends[depth] = end;
                         n = opened(n, depth);
                     }
-                    Act::Pop => opens.depth = pop(&mut opens.at, &mut ends, depth),
-                    Act::Refused(number) => return refused(number, index),
+                    Act::Pop => {
+                        st.opens.depth = stack::pop(&mut st.opens.at, depth);
+                        st.ends[depth - 1] = 0;
+                    }
+                    Act::Refused(e) => return Checked::Refused(e),
                 }
             }
         }

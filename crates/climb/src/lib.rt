@@ -5,72 +5,35 @@ pub mod opener;
 
 ghost use mathlib.Core.Path.{_≡_};
 ghost use mathlib.Core.List.{[]};
-ghost use Rattle.common.specs.Reader.{refusal};
-ghost use Rattle.climb.specs.Climb.{reachedBy, haltedBy, climbOn, climbOf};
+ghost use Rattle.climb.specs.Climb.{climbOn, climbOf};
 use chain::Chain;
-use chain::finding::Outcome;
+use chain::finding::Finding;
 use common::Refusal;
 use opener::Opener;
 
-// What the climb finder returns: the chain, and the number of links climbed. At a refusal the chain is empty and there are no links.
-pub struct Ascent {
-    pub out: Outcome,
-    pub chain: Chain,
-    pub links: usize,
-}
-
-fn reached(chain: Chain) -> Ascent
-    ensures { λ r. ⌜ r ≡ reachedBy chain ⌝ }
-{
-    let out = Outcome::Answer;
-    let links = chain.depth;
-    Ascent { out, chain, links }
-}
-
-fn halted(e: Refusal) -> Ascent
-    ensures { λ r. ⌜ r ≡ haltedBy e ⌝ }
-{
-    let out = Outcome::Refused(e);
-    let chain = Chain::new();
-    Ascent {
-        out,
-        chain,
-        links: 0,
-    }
-}
-
-// A refusal that is the finder's own, and not a step's, carries no position.
-fn stopped(number: u8) -> Ascent
-    ensures { λ r. ⌜ r ≡ haltedBy (refusal number 0 0) ⌝ }
-{
-    let e = Refusal {
-        number,
-        position: 0,
-        detail: 0,
-    };
-    halted(e)
-}
-
 // The climb from an opener, whose parent field is `first`.
-fn climb_from(s: &[u8], i: usize, first: usize) -> Ascent
+fn climb_from(s: &[u8], i: usize, first: usize) -> Finding
     ensures { λ r. ⌜ r ≡ climbOn 64 (now (s .entry)) i first [] ⌝ }
 {
     let mut chain = Chain::new();
     let mut index = i;
     let mut parent = first;
     loop {
-        if parent == 0 {
-            return reached(chain);
-        }
         let depth = chain.depth;
+        if parent == 0 {
+            return chain::finding::found(chain, depth);
+        }
         if 64 <= depth {
-            return stopped(9);
+            return chain::finding::refused(Refusal::at(Refusal::TOO_DEEP, 0));
         }
         if index <= parent {
-            return stopped(13);
+            return chain::finding::refused(Refusal::at(Refusal::UNUSABLE_LINK, 0));
         }
         match opener::opener_at(s, parent) {
-            Opener::Refused(_) => return stopped(13),
+            Opener::Refused(_) => return chain::finding::refused(Refusal::at(
+                Refusal::UNUSABLE_LINK,
+                0,
+            )),
             Opener::Parent(next) => {
                 chain.at[depth] = parent as u32;
                 chain.depth = depth + 1;
@@ -82,11 +45,11 @@ fn climb_from(s: &[u8], i: usize, first: usize) -> Ascent
 }
 
 // The scopes that enclose the opener at i, by parent fields.
-pub fn climb(s: &[u8], i: usize) -> Ascent
+pub fn climb(s: &[u8], i: usize) -> Finding
     ensures { λ r. ⌜ r ≡ climbOf (now (s .entry)) i ⌝ }
 {
     match opener::opener_at(s, i) {
-        Opener::Refused(e) => return halted(e),
+        Opener::Refused(e) => return chain::finding::refused(e),
         Opener::Parent(parent) => return climb_from(s, i, parent),
     }
 }

@@ -12,7 +12,7 @@ use table::CLOSES;
 use table::OPENS;
 use table::code_of;
 ghost use mathlib.Core.Path.{_≡_};
-ghost use Rattle.constants.specs.Kind.{classOf, roleOf, isFiller, classNumber};
+ghost use Rattle.constants.specs.Kind.{classOf, roleOf, nestingRole, isFiller, classNumber};
 
 // The kinds by which records of one class, or of none, are told apart, as cvinfo.h names them.
 pub const S_ALIGN: u16 = 0x0402; // used for page alignment
@@ -179,6 +179,13 @@ pub fn role_of(kind: u16) -> Role
         CLOSES => Role::Closes,
         _ => Role::Neither,
     }
+}
+
+// What the check and the finders take records of this kind for.
+pub fn nesting_role(kind: u16) -> Role
+    ensures { λ r. ⌜ r ≡ nestingRole kind ⌝ }
+{
+    role_of(kind)
 }
 
 // Whether a step passes over records of this kind.

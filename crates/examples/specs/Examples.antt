@@ -21,6 +21,7 @@ use Rattle.iter.specs.Step.{frameAt, scanFrom, scanOf, stepOf}
 use Rattle.iter.specs.declared.Next.the-variants.{End, Refused}
 use Rattle.constants.specs.Raw.{rawKind, nestingRoleOf}
 use Rattle.code.specs.Block as S
+use Rattle.records.specs.Field as F
 use Rattle.links.specs.Links.{linksOf}
 use Rattle.chain.specs.Chain.{chainOf}
 use Rattle.check_nesting.specs.Act.{actOf}
@@ -29,7 +30,7 @@ use Rattle.check_nesting.specs.declared.Checked.the-variants.{Good}
 use Rattle.chain.specs.Finding.{foundBy, refusedBy}
 use Rattle.walk.specs.Walk.{turnOf, walkOn, walkFrom, walkOf}
 use Rattle.climb.specs.Opener.{openerOf}
-use Rattle.climb.specs.Climb.{reachedBy, haltedBy, climbOn, climbOf}
+use Rattle.climb.specs.Climb.{reachedBy, climbOn, climbOf}
 use Rattle.jump.specs.Hop.{hopOf, landOf}
 use Rattle.jump.specs.Jump.{yieldedAt, jumpBody, jumpBy, jumpFrom, jumpOf}
 use Rattle.agreement.specs.Agreement.{Begins, OpenerBegins}
@@ -46,8 +47,8 @@ streamA =
     0x02 ∷ 0x00 ∷ 0x06 ∷ 0x00 ∷ []
 
 -- P1 A passes: 5 and 1 records, 64 and 4 bytes, 2 openers, depth 2.
-p1 : C.checkOf streamA 4 ≡ Good (record { records = 5; bytes = 64; passed = 1; skipped = 4; openers = 2; deepest = 2 })
-unfolding streamA C.checkOf C.checkFrom C.checkOn actOf C.noCounts C.countedOf C.openedOf C.countRec C.endOf readOf readFrom scanOf scanFrom frameAt B.le rawKind nestingRoleOf K.nestingRole K.roleOf K.find K.kinds linksOf decode byKind layout R._>>=_ R.uint N.run N.cstring N.symbolName S.block K.classOf
+p1 : C.checkOf streamA 4 ≡ Good (record { records = 5; bytes = 64; fillers = 1; «filler_bytes» = 4; openers = 2; deepest = 2 })
+unfolding streamA C.checkOf C.checkFrom C.checkOn actOf C.noCounts C.countedOf C.openedOf C.countRec C.endOf readOf readFrom scanOf scanFrom frameAt B.le rawKind nestingRoleOf K.nestingRole K.roleOf K.find K.kinds linksOf decode byKind layout R._>>=_ R.uint N.run N.cstring N.symbolName S.block F.place K.classOf
 p1 = refl
 
 -- P2 i = 52: chain 4, 28; 3 read both ways. (`chainOf` takes a stack, the innermost first.)
@@ -56,7 +57,7 @@ unfolding streamA walkOf walkFrom walkOn turnOf refusedBy readOf readFrom scanOf
 p2-walk = refl
 
 p2-jump : jumpOf streamA 4 52 ≡ foundBy (chainOf (28 ∷ 4 ∷ [])) 3
-unfolding streamA jumpOf jumpFrom jumpBy jumpBody hopOf landOf yieldedAt refusedBy scanOf scanFrom frameAt B.le rawKind nestingRoleOf K.nestingRole K.roleOf K.find K.kinds linksOf decode byKind layout R._>>=_ R.uint N.run N.cstring N.symbolName S.block K.classOf
+unfolding streamA jumpOf jumpFrom jumpBy jumpBody hopOf landOf yieldedAt refusedBy scanOf scanFrom frameAt B.le rawKind nestingRoleOf K.nestingRole K.roleOf K.find K.kinds linksOf decode byKind layout R._>>=_ R.uint N.run N.cstring N.symbolName S.block F.place K.classOf
 p2-jump = refl
 
 -- P3 i = 68: chain 4; walk 5 read, jump 4.
@@ -65,7 +66,7 @@ unfolding streamA walkOf walkFrom walkOn turnOf refusedBy readOf readFrom scanOf
 p3-walk = refl
 
 p3-jump : jumpOf streamA 4 68 ≡ foundBy (chainOf (4 ∷ [])) 4
-unfolding streamA jumpOf jumpFrom jumpBy jumpBody hopOf landOf yieldedAt refusedBy scanOf scanFrom frameAt B.le rawKind nestingRoleOf K.nestingRole K.roleOf K.find K.kinds linksOf decode byKind layout R._>>=_ R.uint N.run N.cstring N.symbolName S.block K.classOf
+unfolding streamA jumpOf jumpFrom jumpBy jumpBody hopOf landOf yieldedAt refusedBy scanOf scanFrom frameAt B.le rawKind nestingRoleOf K.nestingRole K.roleOf K.find K.kinds linksOf decode byKind layout R._>>=_ R.uint N.run N.cstring N.symbolName S.block F.place K.classOf
 p3-jump = refl
 
 -- P4 i = 64: 14 both ways.
@@ -74,12 +75,12 @@ unfolding streamA walkOf walkFrom walkOn turnOf refusedBy readOf readFrom scanOf
 p4-walk = refl
 
 p4-jump : jumpOf streamA 4 64 ≡ refusedBy (refusal 14 0 0)
-unfolding streamA jumpOf jumpFrom jumpBy jumpBody hopOf landOf yieldedAt refusedBy scanOf scanFrom frameAt B.le rawKind nestingRoleOf K.nestingRole K.roleOf K.find K.kinds linksOf decode byKind layout R._>>=_ R.uint N.run N.cstring N.symbolName S.block K.classOf
+unfolding streamA jumpOf jumpFrom jumpBy jumpBody hopOf landOf yieldedAt refusedBy scanOf scanFrom frameAt B.le rawKind nestingRoleOf K.nestingRole K.roleOf K.find K.kinds linksOf decode byKind layout R._>>=_ R.uint N.run N.cstring N.symbolName S.block F.place K.classOf
 p4-jump = refl
 
 -- P5 climb from 28: 4; one link.
-p5 : climbOf streamA 28 ≡ reachedBy (chainOf (4 ∷ []))
-unfolding streamA climbOf climbOn openerOf haltedBy stepOf scanOf scanFrom frameAt B.le rawKind nestingRoleOf K.nestingRole K.roleOf K.find K.kinds linksOf decode byKind layout R._>>=_ R.uint N.run N.cstring N.symbolName S.block K.classOf
+p5 : climbOf streamA 28 ≡ reachedBy (4 ∷ [])
+unfolding streamA climbOf climbOn openerOf refusedBy stepOf scanOf scanFrom frameAt B.le rawKind nestingRoleOf K.nestingRole K.roleOf K.find K.kinds linksOf decode byKind layout R._>>=_ R.uint N.run N.cstring N.symbolName S.block F.place K.classOf
 p5 = refl
 
 -- Condition 3 speaks of A: it passes (P1), a record begins at 52 (P2) and at 68 (P3), none at 64 (P4), and an opener at 28 (P5).

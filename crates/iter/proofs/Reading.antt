@@ -29,20 +29,20 @@ pub record Yielded (s : List ℕ) (p index start len next : ℕ) : Type 0 where
   pub ends : next ≡ start + len
   pub within : next ≤ length s
 
-module _ (s : List ℕ) (index start len next : ℕ) where
+module _ (s : List ℕ) {kind : ℕ} (index start len next : ℕ) where
   from-frame :
       (p : ℕ) (k : ℕ) →
-      ((q : ℕ) → scanFrom k s q .next ≡ Record index start len next → Yielded s q index start len next) →
+      ((q : ℕ) → scanFrom k s q .step ≡ Record kind index start len next → Yielded s q index start len next) →
       (f : Frame) → frameAt s p ≡ f →
-      onFrame p f (λ q. scanFrom k s q) .next ≡ Record index start len next → Yielded s p index start len next
+      onFrame p f (λ q. scanFrom k s q) .step ≡ Record kind index start len next → Yielded s p index start len next
   from-frame p k ih F.Nothing ef e = absurd (let z : _≡_ {A = ℕ} 0 1 = cc in omega arith)
   from-frame p k ih (F.Refused r) ef e = absurd (let z : _≡_ {A = ℕ} 0 1 = cc in omega arith)
-  from-frame p k ih (F.Whole kind l) ef e = go (isFiller kind) e
+  from-frame p k ih (F.Whole own l) ef e = go (isFiller own) e
     where
-      w : Fits s p l
-      w = whole-fits s p kind l ef
+      w : Fits s p own l
+      w = whole-fits s p own l ef
 
-      go : (b : Bool) → onKind b p l (λ q. scanFrom k s q) .next ≡ Record index start len next → Yielded s p index start len next
+      go : (b : Bool) → onKind b own p l (λ q. scanFrom k s q) .step ≡ Record kind index start len next → Yielded s p index start len next
       go true e' =
           let y = ih (p + 2 + l) e' in
           record { from = omega arith; starts = y .starts; least = y .least; ends = y .ends; within = y .within }
@@ -53,7 +53,7 @@ module _ (s : List ℕ) (index start len next : ℕ) where
           let e4 : p + 2 + l ≡ next = cc in
           omega (arith, w)
 
-  from-fits : (k p : ℕ) → scanFrom k s p .next ≡ Record index start len next → Yielded s p index start len next
+  from-fits : (k p : ℕ) → scanFrom k s p .step ≡ Record kind index start len next → Yielded s p index start len next
   unfolding scanFrom
   from-fits zero p e = absurd (let z : _≡_ {A = ℕ} 0 1 = cc in omega arith)
   from-fits (suc k) p e = from-frame p k (from-fits k) (frameAt s p) refl e
@@ -63,14 +63,14 @@ pub record Stepped (s : List ℕ) (at index start len next : ℕ) : Type 0 where
   pub small : length s ≤ 4294967295
   pub yielded : Yielded s at index start len next
 
-pub step-fits : (s : List ℕ) (at index start len next : ℕ) → scanOf s at .next ≡ Record index start len next → Stepped s at index start len next
+pub step-fits : (s : List ℕ) (at index start len next : ℕ) {kind : ℕ} → scanOf s at .step ≡ Record kind index start len next → Stepped s at index start len next
 unfolding scanOf
-step-fits s at index start len next e₀ = go (ltb 4294967295 (length s)) refl (ltb at (length s)) refl e₀
+step-fits s at index start len next {kind} e₀ = go (ltb 4294967295 (length s)) refl (ltb at (length s)) refl e₀
   where
     go :
         (a : Bool) → ltb 4294967295 (length s) ≡ a →
         (b : Bool) → ltb at (length s) ≡ b →
-        cond a (plain (Refused (refusal 5 0 0))) (scanFrom (suc (length s)) s (cond b at (length s))) .next ≡ Record index start len next →
+        cond a (plain (Refused (refusal 5 0 0))) (scanFrom (suc (length s)) s (cond b at (length s))) .step ≡ Record kind index start len next →
         Stepped s at index start len next
     go true ea b eb e = absurd (let z : _≡_ {A = ℕ} 0 1 = cc in omega arith)
     go false ea true eb e = record { small = ltb-false _ _ ea; yielded = from-fits s index start len next (suc (length s)) at e }
@@ -84,81 +84,81 @@ module _ (s : List ℕ) where
       (k j at : ℕ) →
       ((q : ℕ) → length s ≤ q + k → length s ≤ q + j → readFrom k s q ≡ readFrom j s q) →
       length s ≤ at + suc k → length s ≤ at + suc j →
-      (n : Next) → scanOf s at .next ≡ n →
+      (n : Next) → scanOf s at .step ≡ n →
       onNext s (scanOf s at) n (λ q. readFrom k s q) ≡ onNext s (scanOf s at) n (λ q. readFrom j s q)
   same-step k j at ih hk hj (End p) e = refl
   same-step k j at ih hk hj (Refused r) e = refl
-  same-step k j at ih hk hj (Record index start len next) e =
+  same-step k j at ih hk hj (Record kind index start len next) e =
       let y = step-fits s at index start len next e in
       ap (more (recAt s (scanOf s at) index start len)) (ih next (omega arith) (omega arith))
 
-  stop-step : (j at : ℕ) → length s ≤ at → (n : Next) → scanOf s at .next ≡ n → ended (scanOf s at) ≡ onNext s (scanOf s at) n (λ q. readFrom j s q)
+  stop-step : (j at : ℕ) → length s ≤ at → (n : Next) → scanOf s at .step ≡ n → ended (scanOf s at) ≡ onNext s (scanOf s at) n (λ q. readFrom j s q)
   stop-step j at h (End p) e = refl
   stop-step j at h (Refused r) e = refl
-  stop-step j at h (Record index start len next) e =
+  stop-step j at h (Record kind index start len next) e =
       let y = step-fits s at index start len next e in
       absurd (omega arith)
 
   same : (k j at : ℕ) → length s ≤ at + k → length s ≤ at + j → readFrom k s at ≡ readFrom j s at
   unfolding readFrom
   same zero zero at hk hj = refl
-  same zero (suc j) at hk hj = stop-step j at (omega arith) (scanOf s at .next) refl
-  same (suc k) zero at hk hj = sym (stop-step k at (omega arith) (scanOf s at .next) refl)
-  same (suc k) (suc j) at hk hj = same-step k j at (same k j) hk hj (scanOf s at .next) refl
+  same zero (suc j) at hk hj = stop-step j at (omega arith) (scanOf s at .step) refl
+  same (suc k) zero at hk hj = sym (stop-step k at (omega arith) (scanOf s at .step) refl)
+  same (suc k) (suc j) at hk hj = same-step k j at (same k j) hk hj (scanOf s at .step) refl
 
   unroll : (at : ℕ) → readOf s at ≡ readFrom (suc (length s)) s at
   unfolding readOf
   unroll at = same (length s) (suc (length s)) at (omega arith) (omega arith)
 
   -- the reading, by what the step says
-  pub read-by : (at : ℕ) (n : Next) → scanOf s at .next ≡ n → readOf s at ≡ onNext s (scanOf s at) n (λ q. readOf s q)
+  pub read-by : (at : ℕ) (n : Next) → scanOf s at .step ≡ n → readOf s at ≡ onNext s (scanOf s at) n (λ q. readOf s q)
   unfolding readFrom readOf
   read-by at n e = unroll at ∙ ap (λ (m : Next). onNext s (scanOf s at) m (λ q. readFrom (length s) s q)) e
 
 -- The bytes passed over end where the step stops, and each record passed over has bytes.
-pub record Skips (s : List ℕ) (p : ℕ) (c : Scan) : Type 0 where
-  pub within : p + c .skipped ≤ length s
-  pub few : c .passed ≤ c .skipped
-  pub at-record : (index start len next : ℕ) → c .next ≡ Record index start len next → p + c .skipped ≡ index
-  pub at-end : (q : ℕ) → c .next ≡ End q → p + c .skipped ≡ q
+pub record Fillers (s : List ℕ) (p : ℕ) (c : Scan) : Type 0 where
+  pub within : p + c .«filler_bytes» ≤ length s
+  pub few : c .fillers ≤ c .«filler_bytes»
+  pub at-record : (kind index start len next : ℕ) → c .step ≡ Record kind index start len next → p + c .«filler_bytes» ≡ index
+  pub at-end : (q : ℕ) → c .step ≡ End q → p + c .«filler_bytes» ≡ q
 
-nothing-skipped : (s : List ℕ) (p : ℕ) (n : Next) → p ≤ length s →
-    ((index start len next : ℕ) → n ≡ Record index start len next → p ≡ index) → ((q : ℕ) → n ≡ End q → p ≡ q) → Skips s p (plain n)
-nothing-skipped s p n h r e =
+no-fillers : (s : List ℕ) (p : ℕ) (n : Next) → p ≤ length s →
+    ((kind index start len next : ℕ) → n ≡ Record kind index start len next → p ≡ index) → ((q : ℕ) → n ≡ End q → p ≡ q) → Fillers s p (plain n)
+no-fillers s p n h r e =
     record {
       within = omega arith;
       few = omega arith;
-      at-record = λ index start len next q. add-zero p ∙ r index start len next q;
+      at-record = λ kind index start len next q. add-zero p ∙ r kind index start len next q;
       at-end = λ x q. add-zero p ∙ e x q;
     }
 
-skips-frame :
+fillers-frame :
     (s : List ℕ) (p k : ℕ) → p ≤ length s →
-    ((q : ℕ) → q ≤ length s → Skips s q (scanFrom k s q)) →
-    (f : Frame) → frameAt s p ≡ f → Skips s p (onFrame p f (λ q. scanFrom k s q))
-skips-frame s p k h ih F.Nothing ef = nothing-skipped s p (End p) h (λ i a l n e. absurd (let z : _≡_ {A = ℕ} 0 1 = cc in omega arith)) (λ q e. cc)
-skips-frame s p k h ih (F.Refused r) ef =
-    nothing-skipped s p (Refused r) h (λ i a l m e. absurd (let z : _≡_ {A = ℕ} 0 1 = cc in omega arith)) (λ q e. absurd (let z : _≡_ {A = ℕ} 0 1 = cc in omega arith))
-skips-frame s p k h ih (F.Whole kind l) ef = go (isFiller kind)
+    ((q : ℕ) → q ≤ length s → Fillers s q (scanFrom k s q)) →
+    (f : Frame) → frameAt s p ≡ f → Fillers s p (onFrame p f (λ q. scanFrom k s q))
+fillers-frame s p k h ih F.Nothing ef = no-fillers s p (End p) h (λ x i a l n e. absurd (let z : _≡_ {A = ℕ} 0 1 = cc in omega arith)) (λ q e. cc)
+fillers-frame s p k h ih (F.Refused r) ef =
+    no-fillers s p (Refused r) h (λ x i a l m e. absurd (let z : _≡_ {A = ℕ} 0 1 = cc in omega arith)) (λ q e. absurd (let z : _≡_ {A = ℕ} 0 1 = cc in omega arith))
+fillers-frame s p k h ih (F.Whole own l) ef = go (isFiller own)
   where
-    w : Fits s p l
-    w = whole-fits s p kind l ef
+    w : Fits s p own l
+    w = whole-fits s p own l ef
 
-    go : (b : Bool) → Skips s p (onKind b p l (λ q. scanFrom k s q))
+    go : (b : Bool) → Fillers s p (onKind b own p l (λ q. scanFrom k s q))
     go true =
         let y = ih (p + 2 + l) (w .within) in
         record {
           within = omega (arith, y .within);
           few = omega (arith, y .few);
-          at-record = λ i a len n e. omega (arith, y .at-record i a len n e);
+          at-record = λ x i a len n e. omega (arith, y .at-record x i a len n e);
           at-end = λ q e. omega (arith, y .at-end q e);
         }
-    go false = nothing-skipped s p (Record p (p + 2) l (p + 2 + l)) h (λ i a len n e. cc) (λ q e. absurd (let z : _≡_ {A = ℕ} 0 1 = cc in omega arith))
+    go false = no-fillers s p (Record own p (p + 2) l (p + 2 + l)) h (λ x i a len n e. cc) (λ q e. absurd (let z : _≡_ {A = ℕ} 0 1 = cc in omega arith))
 
-skips-from : (s : List ℕ) (k p : ℕ) → p ≤ length s → Skips s p (scanFrom k s p)
+fillers-from : (s : List ℕ) (k p : ℕ) → p ≤ length s → Fillers s p (scanFrom k s p)
 unfolding scanFrom
-skips-from s zero p h = nothing-skipped s p (End p) h (λ i a l n e. absurd (let z : _≡_ {A = ℕ} 0 1 = cc in omega arith)) (λ q e. cc)
-skips-from s (suc k) p h = skips-frame s p k h (skips-from s k) (frameAt s p) refl
+fillers-from s zero p h = no-fillers s p (End p) h (λ x i a l n e. absurd (let z : _≡_ {A = ℕ} 0 1 = cc in omega arith)) (λ q e. cc)
+fillers-from s (suc k) p h = fillers-frame s p k h (fillers-from s k) (frameAt s p) refl
 
 within-le : (s : List ℕ) (at : ℕ) → within s at ≤ length s
 within-le s at = go (ltb at (length s)) refl
@@ -167,15 +167,15 @@ within-le s at = go (ltb at (length s)) refl
     go true e = omega (arith, ltb-true)
     go false e = omega arith
 
-pub skips : (s : List ℕ) (at : ℕ) → Skips s (within s at) (scanOf s at)
+pub fillers-of : (s : List ℕ) (at : ℕ) → Fillers s (within s at) (scanOf s at)
 unfolding scanOf
-skips s at = go (ltb 4294967295 (length s))
+fillers-of s at = go (ltb 4294967295 (length s))
   where
-    go : (b : Bool) → Skips s (within s at) (cond b (plain (Refused (refusal 5 0 0))) (scanFrom (suc (length s)) s (within s at)))
+    go : (b : Bool) → Fillers s (within s at) (cond b (plain (Refused (refusal 5 0 0))) (scanFrom (suc (length s)) s (within s at)))
     go true =
-        nothing-skipped s (within s at) (Refused (refusal 5 0 0)) (within-le s at)
-        (λ i a l m e. absurd (let z : _≡_ {A = ℕ} 0 1 = cc in omega arith)) (λ q e. absurd (let z : _≡_ {A = ℕ} 0 1 = cc in omega arith))
-    go false = skips-from s (suc (length s)) (within s at) (within-le s at)
+        no-fillers s (within s at) (Refused (refusal 5 0 0)) (within-le s at)
+        (λ x i a l m e. absurd (let z : _≡_ {A = ℕ} 0 1 = cc in omega arith)) (λ q e. absurd (let z : _≡_ {A = ℕ} 0 1 = cc in omega arith))
+    go false = fillers-from s (suc (length s)) (within s at) (within-le s at)
 
 -- End is at the end of the stream
 nothing-past : (s : List ℕ) (p : ℕ) → frameAt s p ≡ F.Nothing → length s ≤ p
@@ -190,28 +190,28 @@ nothing-past s p e₀ = go (leb (length s) p) refl (ltb (length s - p) 2) (ltb (
     go false ea false false true e = absurd (let z : _≡_ {A = ℕ} 0 1 = cc in omega arith)
     go false ea false false false e = absurd (let z : _≡_ {A = ℕ} 0 1 = cc in omega arith)
 
-end-frame : (s : List ℕ) (p k q : ℕ) → p ≤ length s → ((r : ℕ) → p < r → r ≤ length s → scanFrom k s r .next ≡ End q → q ≡ length s) →
-    (f : Frame) → frameAt s p ≡ f → onFrame p f (λ x. scanFrom k s x) .next ≡ End q → q ≡ length s
+end-frame : (s : List ℕ) (p k q : ℕ) → p ≤ length s → ((r : ℕ) → p < r → r ≤ length s → scanFrom k s r .step ≡ End q → q ≡ length s) →
+    (f : Frame) → frameAt s p ≡ f → onFrame p f (λ x. scanFrom k s x) .step ≡ End q → q ≡ length s
 end-frame s p k q h ih F.Nothing ef e = let z : p ≡ q = cc in omega (arith, nothing-past s p ef)
 end-frame s p k q h ih (F.Refused r) ef e = absurd (let z : _≡_ {A = ℕ} 0 1 = cc in omega arith)
-end-frame s p k q h ih (F.Whole kind l) ef e₀ = go (isFiller kind) e₀
+end-frame s p k q h ih (F.Whole own l) ef e₀ = go (isFiller own) e₀
   where
-    w : Fits s p l
-    w = whole-fits s p kind l ef
+    w : Fits s p own l
+    w = whole-fits s p own l ef
 
-    go : (b : Bool) → onKind b p l (λ x. scanFrom k s x) .next ≡ End q → q ≡ length s
+    go : (b : Bool) → onKind b own p l (λ x. scanFrom k s x) .step ≡ End q → q ≡ length s
     go true e = ih (p + 2 + l) (omega arith) (w .within) e
     go false e = absurd (let z : _≡_ {A = ℕ} 0 1 = cc in omega arith)
 
-end-from : (s : List ℕ) (k p q : ℕ) → p ≤ length s → length s < p + k → scanFrom k s p .next ≡ End q → q ≡ length s
+end-from : (s : List ℕ) (k p q : ℕ) → p ≤ length s → length s < p + k → scanFrom k s p .step ≡ End q → q ≡ length s
 unfolding scanFrom
 end-from s zero p q h l e = absurd (omega arith)
 end-from s (suc k) p q h l e = end-frame s p k q h (λ r a b e'. end-from s k r q b (omega arith) e') (frameAt s p) refl e
 
-pub end-is : (s : List ℕ) (at q : ℕ) → scanOf s at .next ≡ End q → q ≡ length s
+pub end-is : (s : List ℕ) (at q : ℕ) → scanOf s at .step ≡ End q → q ≡ length s
 unfolding scanOf
 end-is s at q e₀ = go (ltb 4294967295 (length s)) e₀
   where
-    go : (b : Bool) → cond b (plain (Refused (refusal 5 0 0))) (scanFrom (suc (length s)) s (within s at)) .next ≡ End q → q ≡ length s
+    go : (b : Bool) → cond b (plain (Refused (refusal 5 0 0))) (scanFrom (suc (length s)) s (within s at)) .step ≡ End q → q ≡ length s
     go true e = absurd (let z : _≡_ {A = ℕ} 0 1 = cc in omega arith)
     go false e = end-from s (suc (length s)) (within s at) q (within-le s at) (omega arith) e

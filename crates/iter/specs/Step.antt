@@ -25,20 +25,20 @@ frameAt s at =
 
 -- a step that passes nothing over, and one that passes over a filler of len bytes first
 abbrev pub plain : Next → Scan
-plain n = record { passed = 0; skipped = 0; next = n }
+plain n = record { fillers = 0; «filler_bytes» = 0; step = n }
 
 abbrev pub passOver : ℕ → Scan → Scan
-passOver len c = record { passed = c .passed + 1; skipped = c .skipped + (2 + len); next = c .next }
+passOver len c = record { fillers = c .fillers + 1; «filler_bytes» = c .«filler_bytes» + (2 + len); step = c .step }
 
--- fillers are passed over and reading goes on (`on`); otherwise: index, the record's bytes, next position
-abbrev pub onKind : Bool → ℕ → ℕ → (ℕ → Scan) → Scan
-onKind true p len on = passOver len (on (p + 2 + len))
-onKind false p len on = plain (Record p (p + 2) len (p + 2 + len))
+-- fillers are passed over and reading goes on (`on`); otherwise: the kind, index, the record's bytes, next position
+abbrev pub onKind : Bool → ℕ → ℕ → ℕ → (ℕ → Scan) → Scan
+onKind true kind p len on = passOver len (on (p + 2 + len))
+onKind false kind p len on = plain (Record kind p (p + 2) len (p + 2 + len))
 
 abbrev pub onFrame : ℕ → Frame → (ℕ → Scan) → Scan
 onFrame p F.Nothing on = plain (End p)
 onFrame p (F.Refused e) on = plain (Refused e)
-onFrame p (F.Whole kind len) on = onKind (isFiller kind) p len on
+onFrame p (F.Whole kind len) on = onKind (isFiller kind) kind p len on
 
 -- a step from p, where at most k records follow
 unfoldable pub scanFrom : ℕ → List ℕ → ℕ → Scan
@@ -56,4 +56,4 @@ scanOf s at = cond (ltb 4294967295 (length s)) (plain (Refused (refusal 5 0 0)))
 
 unfoldable pub stepOf : List ℕ → ℕ → Next
 unfolding scanOf
-stepOf s at = scanOf s at .next
+stepOf s at = scanOf s at .step

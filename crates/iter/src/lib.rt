@@ -3,27 +3,21 @@ ghost use mathlib.Core.Path.{_≡_};
 ghost use Prim.Native.Nat.{suc, _≤_};
 ghost use lib.ListN.{length};
 ghost use Rattle.iter.specs.Step.{frameAt, scanFrom, scanOf, stepOf};
-ghost use Rattle.common.specs.Reader.{refusal};
 use common::Refusal;
 
 // The longest stream that is read.
 pub const MAX_STREAM: usize = 0xffff_ffff;
 
-// What stands at a position: nothing, a record of a kind and a length behind its length field, or a refusal.
+// What stands at a position.
 pub enum Frame {
+    // No byte is left.
     Nothing,
-    Refused(Refusal),
-    Whole { kind: u16, len: usize },
-}
 
-fn refused(number: u8, position: usize) -> Refusal
-    ensures { λ r. ⌜ r ≡ refusal number position 0 ⌝ }
-{
-    Refusal {
-        number,
-        position,
-        detail: 0,
-    }
+    // No whole record, for this reason.
+    Refused(Refusal),
+
+    // A record of a kind, with so many bytes behind its length field, its kind's two among them.
+    Whole { kind: u16, len: usize },
 }
 
 fn frame_at(s: &[u8], at: usize) -> Frame
@@ -34,26 +28,32 @@ fn frame_at(s: &[u8], at: usize) -> Frame
         return Frame::Nothing;
     }
     if n - at < 2 {
-        return Frame::Refused(refused(1, at));
+        return Frame::Refused(Refusal::at(Refusal::UNEXPECTED_EOF, at));
     }
     let len = common::u16_at(s, at) as usize;
     let body = at + 2;
     if len < 2 {
-        return Frame::Refused(refused(2, body));
+        return Frame::Refused(Refusal::at(Refusal::SYMBOL_TOO_SHORT, body));
     }
     if n - body < len {
-        return Frame::Refused(refused(1, body));
+        return Frame::Refused(Refusal::at(Refusal::UNEXPECTED_EOF, body));
     }
     let kind = common::u16_at(s, body);
     Frame::Whole { kind, len }
 }
 
-// Where a step ends: at the end of the stream, at a refusal, or at a record: the position of its length field, its bytes, kind
-// first, and the position after it.
+// Where a step ends.
 pub enum Next {
+    // At the end of the stream, which is this position.
     End(usize),
+
+    // At bytes that are no record, for this reason.
     Refused(Refusal),
+
+    // At a record: its kind, the position of its length field, where its bytes start, kind first, how many they are, and the position
+    // after it.
     Record {
+        kind: u16,
         index: usize,
         start: usize,
         len: usize,
@@ -61,11 +61,16 @@ pub enum Next {
     },
 }
 
-// A step, with how many fillers it passed over and their bytes, length fields included.
+// A step, with what it passed over.
 pub struct Scan {
-    pub passed: usize,
-    pub skipped: usize,
-    pub next: Next,
+    // The fillers passed over.
+    pub fillers: usize,
+
+    // Their bytes, length fields included.
+    pub filler_bytes: usize,
+
+    // Where the step ends.
+    pub step: Next,
 }
 
 // The step from a position within the stream.
@@ -74,40 +79,41 @@ fn scan_within(s: &[u8], from: usize) -> Scan
     ensures { λ r. ⌜ r ≡ scanFrom (suc (length (now (s .entry)))) (now (s .entry)) from ⌝ }
 {
     let mut p = from;
-    let mut passed: usize = 0;
-    let mut skipped: usize = 0;
+    let mut fillers: usize = 0;
+    let mut filler_bytes: usize = 0;
     loop {
         match frame_at(s, p) {
-            Frame::Nothing => return scanned(passed, skipped, Next::End(p)),
-            Frame::Refused(e) => return scanned(passed, skipped, Next::Refused(e)),
+            Frame::Nothing => return scanned(fillers, filler_bytes, Next::End(p)),
+            Frame::Refused(e) => return scanned(fillers, filler_bytes, Next::Refused(e)),
             Frame::Whole { kind, len } => {
                 let start = p + 2;
                 let after = start + len;
                 if constants::is_filler(kind) {
                     p = after;
-                    passed = passed + 1;
-                    skipped = skipped + (2 + len);
+                    fillers = fillers + 1;
+                    filler_bytes = filler_bytes + (2 + len);
                 } else {
-                    let next = Next::Record {
+                    let step = Next::Record {
+                        kind,
                         index: p,
                         start,
                         len,
                         next: after,
                     };
-                    return scanned(passed, skipped, next);
+                    return scanned(fillers, filler_bytes, step);
                 }
             }
         }
     }
 }
 
-fn scanned(passed: usize, skipped: usize, next: Next) -> Scan
-    ensures { λ r. ⌜ r ≡ record { passed = passed; skipped = skipped; next = next } ⌝ }
+fn scanned(fillers: usize, filler_bytes: usize, step: Next) -> Scan
+    ensures { λ r. ⌜ r ≡ record { fillers = fillers; «filler_bytes» = «filler_bytes»; step = step } ⌝ }
 {
     Scan {
-        passed,
-        skipped,
-        next,
+        fillers,
+        filler_bytes,
+        step,
     }
 }
 
@@ -117,7 +123,7 @@ pub fn scan_at(s: &[u8], at: usize) -> Scan
 {
     let n = s.len();
     if MAX_STREAM < n {
-        return scanned(0, 0, Next::Refused(refused(5, 0)));
+        return scanned(0, 0, Next::Refused(Refusal::at(Refusal::TOO_LONG, 0)));
     }
     if at < n {
         scan_within(s, at)
@@ -131,5 +137,5 @@ pub fn step(s: &[u8], at: usize) -> Next
     ensures { λ r. ⌜ r ≡ stepOf (now (s .entry)) at ⌝ }
 {
     let c = scan_at(s, at);
-    c.next
+    c.step
 }

@@ -7,6 +7,7 @@ ghost use mathlib.Core.Path.{_≡_};
 ghost use Rattle.jump.specs.Jump.{jumpOf};
 use chain::Chain;
 use chain::finding::Finding;
+use common::Refusal;
 use hop::Hop;
 use hop::Land;
 use iter::Next;
@@ -20,9 +21,10 @@ pub fn jump(s: &[u8], start: usize, i: usize) -> Finding
     let mut read: usize = 0;
     loop {
         match iter::step(s, at) {
-            Next::End(_) => return chain::finding::stopped(14),
+            Next::End(_) => return chain::finding::refused(Refusal::at(Refusal::NOTHING_THERE, 0)),
             Next::Refused(e) => return chain::finding::refused(e),
             Next::Record {
+                kind,
                 index,
                 start: from,
                 len: _,
@@ -31,7 +33,7 @@ pub fn jump(s: &[u8], start: usize, i: usize) -> Finding
                 at = next;
                 read = read + 1;
                 let depth = chain.depth;
-                match hop::hop_at(&s[from..next], index, next, i, depth) {
+                match hop::hop_at(kind, &s[from..next], index, next, i, depth) {
                     Hop::Stay => {}
                     Hop::Push => {
                         chain.at[depth] = index as u32;
@@ -45,7 +47,7 @@ pub fn jump(s: &[u8], start: usize, i: usize) -> Finding
                         Land::Refused(e) => return chain::finding::refused(e),
                     },
                     Hop::Found => return chain::finding::found(chain, read),
-                    Hop::Stop(number) => return chain::finding::stopped(number),
+                    Hop::Refused(e) => return chain::finding::refused(e),
                 }
             }
         }

@@ -81,6 +81,7 @@ pub fn print_listing(s: &[u8]) {
                 return;
             }
             Next::Record {
+                kind: _,
                 index,
                 start,
                 len,

@@ -12,7 +12,7 @@ ghost use Rattle.walk.specs.Walk.{walkOf};
 ghost use Rattle.jump.specs.Jump.{jumpOf};
 ghost use Rattle.climb.specs.Climb.{climbOf};
 ghost use Rattle.reply.specs.Reply.{Replied};
-ghost use Rattle.reply.specs.Replies.{stepReply, kindReply, decodeReply, nameReply, entryReply, checkReply, findingReply, ascentReply};
+ghost use Rattle.reply.specs.Replies.{stepReply, kindReply, decodeReply, nameReply, entryReply, checkReply, findingReply};
 use records::Decoded;
 
 // One step from a position. End: 0, position. A record: 1, index, where its bytes start, how many they are, next position.
@@ -82,7 +82,7 @@ pub extern "C" fn mitrelilac_walk(stream: &[u8], start: usize, i: usize, out: &m
     let f = walk::walk(stream, start, i);
     let found = f.out;
     let chain = f.chain;
-    reply::reply_chain(found, f.read, chain, out)
+    reply::reply_chain(found, f.count, chain, out)
 }
 
 // As walking, but scopes that close before i are jumped over.
@@ -93,16 +93,16 @@ pub extern "C" fn mitrelilac_jump(stream: &[u8], start: usize, i: usize, out: &m
     let f = jump::jump(stream, start, i);
     let found = f.out;
     let chain = f.chain;
-    reply::reply_chain(found, f.read, chain, out)
+    reply::reply_chain(found, f.count, chain, out)
 }
 
 // The scopes that enclose the opener at i, by parent fields: the number of links, then as walking, but the innermost first.
 #[no_mangle]
 pub extern "C" fn mitrelilac_climb(stream: &[u8], i: usize, out: &mut [u64; 66]) -> u32
-    ensures { λ r. ⌜ Replied (ascentReply (climbOf (now (stream .entry)) i)) r (now (out .entry)) (now (out .exit)) ⌝ }
+    ensures { λ r. ⌜ Replied (findingReply (climbOf (now (stream .entry)) i)) r (now (out .entry)) (now (out .exit)) ⌝ }
 {
-    let a = climb::climb(stream, i);
-    let found = a.out;
-    let chain = a.chain;
-    reply::reply_chain(found, a.links, chain, out)
+    let f = climb::climb(stream, i);
+    let found = f.out;
+    let chain = f.chain;
+    reply::reply_chain(found, f.count, chain, out)
 }

@@ -1,4 +1,4 @@
-// The typed records (pdb's src/symbol/mod.rs): what a record decodes to. Nothing is read here.
+// The typed records (pdb's src/symbol/mod.rs): what a record decodes to. Module field reads the fields that several of them have.
 //
 // Indexes, types and ids are u32, registers and sections u16; names and annotations are parts of the record.
 pub mod field;

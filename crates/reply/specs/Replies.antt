@@ -14,7 +14,6 @@ use Rattle.iter.specs.declared.Next.the-variants as N
 use Rattle.check_nesting.specs.declared.Checked.{Checked}
 use Rattle.check_nesting.specs.declared.Checked.the-variants as C
 use Rattle.chain.specs.declared.finding.Finding.{Finding}
-use Rattle.climb.specs.declared.Ascent.{Ascent}
 use Rattle.words.specs.Word.{truth}
 use Rattle.reply.specs.Reply.{Reply, answers, refusalReply, chainReply}
 
@@ -22,7 +21,7 @@ use Rattle.reply.specs.Reply.{Reply, answers, refusalReply, chainReply}
 -- given as where they start and how many they are.
 abbrev pub stepReply : Next → Reply
 stepReply (N.End position) = answers (0 ∷ position ∷ [])
-stepReply (N.Record index start len next) = answers (1 ∷ index ∷ start ∷ len ∷ next ∷ [])
+stepReply (N.Record kind index start len next) = answers (1 ∷ index ∷ start ∷ len ∷ next ∷ [])
 stepReply (N.Refused e) = refusalReply e
 
 -- "Kind, opener, closer never refuse, at any length"
@@ -47,12 +46,9 @@ entryReply (refused e) = refusalReply e
 
 -- Check: records yielded and their bytes, records passed over and theirs, openers, deepest nesting
 abbrev pub checkReply : Checked → Reply
-checkReply (C.Good n) = answers (n .records ∷ n .bytes ∷ n .passed ∷ n .skipped ∷ n .openers ∷ n .deepest ∷ [])
+checkReply (C.Good n) = answers (n .records ∷ n .bytes ∷ n .fillers ∷ n .«filler_bytes» ∷ n .openers ∷ n .deepest ∷ [])
 checkReply (C.Refused e) = refusalReply e
 
 -- Walk and jump with the number of records read, climb with that of links
 abbrev pub findingReply : Finding → Reply
-findingReply f = chainReply (f .out) (f .read) (f .chain)
-
-abbrev pub ascentReply : Ascent → Reply
-ascentReply a = chainReply (a .out) (a .links) (a .chain)
+findingReply f = chainReply (f .out) (f .count) (f .chain)

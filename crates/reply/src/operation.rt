@@ -18,6 +18,7 @@ pub fn reply_step(answer: Next, out: &mut [u64; 5]) -> u32
             return 0;
         }
         Next::Record {
+            kind: _,
             index,
             start,
             len,
@@ -78,8 +79,8 @@ pub fn reply_check(answer: Checked, out: &mut [u64; 6]) -> u32
                 out,
                 n.records as u64,
                 n.bytes as u64,
-                n.passed as u64,
-                n.skipped as u64,
+                n.fillers as u64,
+                n.filler_bytes as u64,
                 n.openers as u64,
                 n.deepest as u64,
             );

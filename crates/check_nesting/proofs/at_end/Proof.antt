@@ -12,7 +12,7 @@ returns c = simp (eq-eqb _ _ (c .before .before .before .before .if1 .taken))
 
 returns-2 : tie.Need-returns-2
 unfolding endOf
-returns-2 c = rw (ne-eqb _ _ (c .before .if1 .left)) (c .refused .ensures)
+returns-2 c = rw (ne-eqb _ _ (c .before .if1 .left), c .at .ensures)
 
 pub at-end-spec : {M : Type 1} → statement M
 at-end-spec = tie.close (tie.spec (λ c. search needs) (λ c. search needs) returns (λ c κs. search needs) returns-2)

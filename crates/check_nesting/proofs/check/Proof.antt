@@ -6,42 +6,52 @@ use mathlib.Core.List.{List}
 use Prim.Native.Nat.{ℕ, _-_, _<_}
 use lib.ListN.{length}
 use native.Mathlib.Omega.{arith}
+use Rattle.iter.specs.Step.{scanOf}
+use Rattle.iter.specs.declared.Scan.{Scan}
+use Rattle.iter.specs.declared.Next.the-variants.{Record}
+use Rattle.iter.proofs.Records.{kind-lent}
 use Rattle.check_nesting.specs.declared.Counts.{Counts}
+use Rattle.check_nesting.specs.declared.stack.Stack.{Stack}
 use Rattle.check_nesting.specs.declared.Checked.{Checked}
 use Rattle.check_nesting.specs.Check.{countedOf, checkOf, addsUp}
-use Rattle.check_nesting.proofs.Checks.{Checking, checking-first, Turn, Yields, scanned, found, act, depth-most, push-room, pop-room, at-refused, at-end, go-stay, go-push, go-pop, at-stop}
+use Rattle.check_nesting.proofs.Checks.{Checking, checking-first, Turn, Yields, scanned, found, act, depth-most, push-room, pop-room, at-refused, at-end, go-stay, go-push, go-pop, at-refusing}
 use Rattle.check_nesting.proofs.Sums.{sums}
 use Rattle.check_nesting.proofs.check.Statement.{statement}
 use Rattle.check_nesting.proofs.check.Tie as tie
 
 abbrev Inv-loop : tie.InvT-loop
-Inv-loop s start opens₀ ends₀ n₀ at₀ opens ends n at = Checking s start opens ends n at
+Inv-loop s start stack₀ n₀ at₀ stack n at = Checking s start (stack .opens) (stack .ends) n at
 
 abbrev μ-loop : tie.MeasureT-loop
-μ-loop s start opens₀ ends₀ n₀ at₀ opens ends n at = length s - at
+μ-loop s start stack₀ n₀ at₀ stack n at = length s - at
 
 -- the step that was made
 turnAt : (c : tie.After-scan-at Inv-loop μ-loop) →
-    Turn (c .before .before .before .before .before .args .s .now) (c .before .before .before .before .before .args .start) (c .before .loop .opens) (c .before .loop .ends) (c .before .loop .n) (c .before .loop .at) (c .scan-at .result)
+    Turn (c .before .before .before .before .before .args .s .now) (c .before .before .before .before .before .args .start) (c .before .loop .st .opens) (c .before .loop .st .ends) (c .before .loop .n) (c .before .loop .at) (c .scan-at .result)
 turnAt c = record { inv = c .before .loop .inv; scan = c .scan-at .ensures }
 
 -- the record that it yields
 recordAt : (c : tie.After-known-told2 Inv-loop μ-loop) →
-    Yields (c .before .before .before .before .before .before .before .before .args .s .now) (c .before .before .before .before .before .before .before .before .args .start) (c .before .before .before .before .loop .opens) (c .before .before .before .before .loop .ends) (c .before .before .before .before .loop .n) (c .before .before .before .before .loop .at) (c .before .before .before .scan-at .result)
-    (c .before .found2 .given .0 .0) (c .before .found2 .given .0 .1 .0) (c .before .found2 .given .0 .1 .1 .0) (c .before .found2 .given .0 .1 .1 .1 .0)
+    Yields (c .before .before .before .before .before .before .before .before .args .s .now) (c .before .before .before .before .before .before .before .before .args .start) (c .before .before .before .before .loop .st .opens) (c .before .before .before .before .loop .st .ends) (c .before .before .before .before .loop .n) (c .before .before .before .before .loop .at) (c .before .before .before .scan-at .result)
+    (c .before .found2 .given .0 .0) (c .before .found2 .given .0 .1 .0) (c .before .found2 .given .0 .1 .1 .0) (c .before .found2 .given .0 .1 .1 .1 .0) (c .before .found2 .given .0 .1 .1 .1 .1 .0)
 recordAt c = record { turn = turnAt (c .before .before .before); yields = c .before .found2 .given .1 }
+
+stepped : (c : tie.After-known-told2 Inv-loop μ-loop) →
+    scanOf (c .before .before .before .before .before .before .before .before .args .s .now) (c .before .before .before .before .loop .at) .step
+    ≡ Record (c .before .found2 .given .0 .0) (c .before .found2 .given .0 .1 .0) (c .before .found2 .given .0 .1 .1 .0) (c .before .found2 .given .0 .1 .1 .1 .0) (c .before .found2 .given .0 .1 .1 .1 .1 .0)
+stepped c = ap (λ (x : Scan). x .step) (sym (c .before .before .before .scan-at .ensures)) ∙ c .before .found2 .given .1
 
 -- what is done with it, on its own bytes
 acted : (c : tie.After-act-at Inv-loop μ-loop) → c .act-at .result ≡ act (recordAt (c .before .before .before .before .before .before))
 acted c =
-    let e : c .before .before .before .before .before .before .before .found2 .given .0 .1 .1 .1 .0 - c .before .before .before .before .before .before .before .found2 .given .0 .1 .0 ≡ c .before .before .before .before .before .before .before .found2 .given .0 .1 .1 .0 = omega (arith, found (recordAt (c .before .before .before .before .before .before))) in
+    let e : c .before .before .before .before .before .before .before .found2 .given .0 .1 .1 .1 .1 .0 - c .before .before .before .before .before .before .before .found2 .given .0 .1 .1 .0 ≡ c .before .before .before .before .before .before .before .found2 .given .0 .1 .1 .1 .0 = omega (arith, found (recordAt (c .before .before .before .before .before .before))) in
     c .act-at .ensures ∙ rw e
 
 -- a push finds room, and a pop an open opener
-pushRoom : (c : tie.After-known-told3 Inv-loop μ-loop) → c .before .before .before .before .before .before .before .before .before .before .before .before .before .loop .opens .depth < 64
+pushRoom : (c : tie.After-known-told3 Inv-loop μ-loop) → c .before .before .before .before .before .before .before .before .before .before .before .before .before .loop .st .opens .depth < 64
 pushRoom c = push-room (recordAt (c .before .before .before .before .before .before .before .before .before)) (sym (acted (c .before .before .before)) ∙ c .before .end .given .1)
 
-popRoom : (c : tie.After-enum-told3 Inv-loop μ-loop) → c .before .before .before .before .before .before .before .before .before .before .before .before .loop .opens .depth ≡ 0 → ⊥
+popRoom : (c : tie.After-enum-told3 Inv-loop μ-loop) → c .before .before .before .before .before .before .before .before .before .before .before .before .loop .st .opens .depth ≡ 0 → ⊥
 popRoom c = pop-room (recordAt (c .before .before .before .before .before .before .before .before)) (sym (acted (c .before .before)) ∙ c .enum-told3 .given .1)
 
 -- the answer is the definition's, and its sums add up
@@ -49,7 +59,12 @@ both : (s : List ℕ) (start : ℕ) (r : Checked) → r ≡ checkOf s start → 
 both s start r e = (e, sums s start r e)
 
 loop-holds : tie.Need-loop-holds Inv-loop μ-loop
-loop-holds c = rw (c .no-counts .ensures) (checking-first _ _ _ _ (c .before .new .ensures) refl)
+loop-holds c =
+    rw (c .no-counts .ensures)
+    (checking-first _ _ _ _ (ap (λ (x : Stack). x .opens) (c .before .new .ensures)) (ap (λ (x : Stack). x .ends) (c .before .new .ensures)))
+
+innermost-requires : tie.Need-innermost-requires Inv-loop μ-loop
+innermost-requires c κs = depth-most (turnAt (c .before .before .before .before))
 
 at-end-requires : tie.Need-at-end-requires Inv-loop μ-loop
 at-end-requires c κs = omega (arith, turnAt (c .before .before .before .before .before) .inv, scanned (turnAt (c .before .before .before .before .before)))
@@ -72,52 +87,63 @@ part-act-at-start c = omega (arith, found (recordAt (c .before)))
 part-act-at-end : tie.Need-part-act-at-end Inv-loop μ-loop
 part-act-at-end c = omega (arith, found (recordAt (c .before)))
 
+act-at-requires : tie.Need-act-at-requires Inv-loop μ-loop
+act-at-requires c κs = (kind-lent _ _ _ _ _ _ (stepped (c .before .before .before .before .before)), depth-most (turnAt (c .before .before .before .before .before .before .before .before)))
+
 loop-less : tie.Need-loop-less Inv-loop μ-loop
 loop-less c = omega (arith, found (recordAt (c .before .before .before .before .before .before .before .before)))
 
 loop-again : tie.Need-loop-again Inv-loop μ-loop
 loop-again c = rw (c .before .before .before .before .before .before .before .counted .ensures) (go-stay (recordAt (c .before .before .before .before .before .before .before .before)) (sym (acted (c .before .before)) ∙ c .enum-told2 .given .1))
 
-cast-opens : tie.Need-cast-opens Inv-loop μ-loop
-cast-opens c = omega (arith, found (recordAt (c .before .before .before .before .before .before .before .before .before)))
+cast-push : tie.Need-cast-push Inv-loop μ-loop
+cast-push c = omega (arith, found (recordAt (c .before .before .before .before .before .before .before .before .before .before)))
 
-mul-opens : tie.Need-mul-opens Inv-loop μ-loop
-mul-opens c = omega (arith, pushRoom c)
+push-requires : tie.Need-push-requires Inv-loop μ-loop
+push-requires c κs = pushRoom (c .before)
 
-element-write-opens : tie.Need-element-write-opens Inv-loop μ-loop
-element-write-opens c = omega (arith, pushRoom c)
+mul-st : tie.Need-mul-st Inv-loop μ-loop
+mul-st c = omega (arith, pushRoom (c .before .before .before))
 
-add-opens : tie.Need-add-opens Inv-loop μ-loop
-add-opens c = omega (arith, pushRoom c)
-
-mul-ends : tie.Need-mul-ends Inv-loop μ-loop
-mul-ends c = omega (arith, pushRoom c)
-
-array-write-ends : tie.Need-array-write-ends Inv-loop μ-loop
-array-write-ends c = omega (arith, pushRoom c)
+element-write-st : tie.Need-element-write-st Inv-loop μ-loop
+element-write-st c = omega (arith, pushRoom (c .before .before .before))
 
 opened-requires : tie.Need-opened-requires Inv-loop μ-loop
 unfolding countedOf
-opened-requires c κs = let o : c .before .before .before .before .before .before .before .before .counted .result .openers ≡ c .before .before .before .before .before .before .before .before .before .before .before .before .before .loop .n .openers = ap (λ (m : Counts). m .openers) (c .before .before .before .before .before .before .before .before .counted .ensures) in
-    omega (arith, turnAt (c .before .before .before .before .before .before .before .before .before .before .before .before) .inv, found (recordAt (c .before .before .before .before .before .before .before .before .before)), pushRoom c)
+opened-requires c κs =
+    let o : c .before .before .before .before .before .before .before .before .before .before .before .counted .result .openers ≡ c .before .before .before .before .before .before .before .before .before .before .before .before .before .before .before .before .loop .n .openers = ap (λ (m : Counts). m .openers) (c .before .before .before .before .before .before .before .before .before .before .before .counted .ensures) in
+    omega (arith, turnAt (c .before .before .before .before .before .before .before .before .before .before .before .before .before .before .before) .inv, found (recordAt (c .before .before .before .before .before .before .before .before .before .before .before .before)), pushRoom (c .before .before .before))
 
 loop-less-2 : tie.Need-loop-less-2 Inv-loop μ-loop
-loop-less-2 c = omega (arith, found (recordAt (c .before .before .before .before .before .before .before .before .before .before)))
+loop-less-2 c = omega (arith, found (recordAt (c .before .before .before .before .before .before .before .before .before .before .before .before .before)))
 
 loop-again-2 : tie.Need-loop-again-2 Inv-loop μ-loop
-loop-again-2 c = rw (c .opened .ensures, c .before .before .before .before .before .before .before .before .before .counted .ensures) (go-push (recordAt (c .before .before .before .before .before .before .before .before .before .before)) (sym (acted (c .before .before .before .before)) ∙ c .before .before .end .given .1))
+loop-again-2 c =
+    rw (c .opened .ensures, c .before .before .before .before .before .before .before .before .before .before .before .before .counted .ensures, c .before .before .push .ensures .0, c .before .before .push .ensures .1)
+    (go-push (recordAt (c .before .before .before .before .before .before .before .before .before .before .before .before .before)) (sym (acted (c .before .before .before .before .before .before .before)) ∙ c .before .before .before .before .before .end .given .1))
 
 pop-requires : tie.Need-pop-requires Inv-loop μ-loop
-pop-requires c κs = omega (arith, popRoom (c .before .before), depth-most (turnAt (c .before .before .before .before .before .before .before .before .before .before .before .before .before)))
+pop-requires c κs = omega (arith, popRoom (c .before), depth-most (turnAt (c .before .before .before .before .before .before .before .before .before .before .before .before)))
+
+sub-st : tie.Need-sub-st Inv-loop μ-loop
+sub-st c = omega (arith, popRoom (c .before .before .before))
+
+mul-st-2 : tie.Need-mul-st-2 Inv-loop μ-loop
+mul-st-2 c = omega (arith, popRoom (c .before .before .before), depth-most (turnAt (c .before .before .before .before .before .before .before .before .before .before .before .before .before .before)))
+
+element-write-st-2 : tie.Need-element-write-st-2 Inv-loop μ-loop
+element-write-st-2 c = omega (arith, popRoom (c .before .before .before), depth-most (turnAt (c .before .before .before .before .before .before .before .before .before .before .before .before .before .before)))
 
 loop-less-3 : tie.Need-loop-less-3 Inv-loop μ-loop
 loop-less-3 c = omega (arith, found (recordAt (c .before .before .before .before .before .before .before .before .before .before .before)))
 
 loop-again-3 : tie.Need-loop-again-3 Inv-loop μ-loop
-loop-again-3 c = rw (c .pop .ensures .0, c .pop .ensures .1 .0, c .pop .ensures .1 .1, c .before .before .before .before .before .before .before .before .before .before .counted .ensures) (go-pop (recordAt (c .before .before .before .before .before .before .before .before .before .before .before)) (sym (acted (c .before .before .before .before .before)) ∙ c .before .before .before .enum-told3 .given .1))
+loop-again-3 c =
+    rw (c .before .before .before .before .before .before .before .before .before .before .counted .ensures, c .before .pop .ensures .0, c .before .pop .ensures .1)
+    (go-pop (recordAt (c .before .before .before .before .before .before .before .before .before .before .before)) (sym (acted (c .before .before .before .before .before)) ∙ c .before .before .before .enum-told3 .given .1))
 
 returns-3 : tie.Need-returns-3 Inv-loop μ-loop
-returns-3 c = both _ _ _ (c .refused .ensures ∙ at-stop (recordAt (c .before .before .before .before .before .before .before .before .before .before)) (sym (acted (c .before .before .before .before)) ∙ c .before .before .number .given .1))
+returns-3 c = both _ _ _ (at-refusing (recordAt (c .before .before .before .before .before .before .before .before .before)) (sym (acted (c .before .before .before)) ∙ c .before .e .given .1))
 
 pub check-spec : {M : Type 1} → statement M
 check-spec =
@@ -130,7 +156,7 @@ check-spec =
     loop-holds
     (λ c κs. search needs)
     (λ c. search needs)
-    (λ c κs. search needs)
+    innermost-requires
     at-end-requires
     returns
     (λ c. search needs)
@@ -140,24 +166,24 @@ check-spec =
     sub-act-at
     part-act-at-start
     part-act-at-end
-    (λ c κs. search needs)
+    act-at-requires
     (λ c. search needs)
     loop-less
     loop-again
     (λ c. search needs)
-    cast-opens
-    mul-opens
-    element-write-opens
-    add-opens
-    mul-ends
-    array-write-ends
+    cast-push
+    push-requires
+    mul-st
+    element-write-st
     opened-requires
     loop-less-2
     loop-again-2
     (λ c. search needs)
     pop-requires
+    sub-st
+    mul-st-2
+    element-write-st-2
     loop-less-3
     loop-again-3
     (λ c. search needs)
-    (λ c κs. search needs)
     returns-3)

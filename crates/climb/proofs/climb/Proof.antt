@@ -8,7 +8,7 @@ use Rattle.climb.proofs.climb.Tie as tie
 
 returns : tie.Need-returns
 unfolding climbOf
-returns c = c .halted .ensures ∙ rw (sym (c .before .before .before .before .opener-at .ensures) ∙ c .before .before .e .given .1)
+returns c = c .refused .ensures ∙ rw (sym (c .before .before .before .before .opener-at .ensures) ∙ c .before .before .e .given .1)
 
 returns-2 : tie.Need-returns-2
 unfolding climbOf

@@ -19,16 +19,16 @@ loop-holds : tie.Need-loop-holds Inv-loop μ-loop
 loop-holds c = climbing-first _ _ _ _ (c .new .ensures)
 
 returns : tie.Need-returns Inv-loop μ-loop
-returns c = c .reached .ensures ∙ at-top _ _ _ _ _ _ (c .before .before .loop .inv) (c .before .if1 .taken)
+returns c = c .found .ensures ∙ at-top _ _ _ _ _ _ (c .before .before .loop .inv) (c .before .if1 .taken)
 
 returns-2 : tie.Need-returns-2 Inv-loop μ-loop
-returns-2 c = c .stopped .ensures ∙ at-full _ _ _ _ _ _ (c .before .before .before .loop .inv) (c .before .before .if1 .left) (c .before .if2 .taken)
+returns-2 c = c .refused .ensures ∙ rw (c .before .at .ensures) (at-full _ _ _ _ _ _ (c .before .before .before .before .loop .inv) (c .before .before .before .if1 .left) (c .before .before .if2 .taken))
 
 returns-3 : tie.Need-returns-3 Inv-loop μ-loop
-returns-3 c = c .stopped2 .ensures ∙ at-above _ _ _ _ _ _ (c .before .before .before .before .loop .inv) (c .before .before .before .if1 .left) (c .before .before .if2 .left) (c .before .if3 .taken)
+returns-3 c = c .refused2 .ensures ∙ rw (c .before .at2 .ensures) (at-above _ _ _ _ _ _ (c .before .before .before .before .before .loop .inv) (c .before .before .before .before .if1 .left) (c .before .before .before .if2 .left) (c .before .before .if3 .taken))
 
 returns-4 : tie.Need-returns-4 Inv-loop μ-loop
-returns-4 c = c .stopped3 .ensures ∙ at-missing _ _ _ _ _ _ (c .before .before .before .before .before .before .before .loop .inv) (c .before .before .before .before .before .before .if1 .left) (c .before .before .before .before .before .if2 .left) (c .before .before .before .before .if3 .left) _ (sym (c .before .before .before .opener-at .ensures) ∙ c .before .enum-told .given .1)
+returns-4 c = c .refused3 .ensures ∙ rw (c .before .at3 .ensures) (at-missing _ _ _ _ _ _ (c .before .before .before .before .before .before .before .before .loop .inv) (c .before .before .before .before .before .before .before .if1 .left) (c .before .before .before .before .before .before .if2 .left) (c .before .before .before .before .before .if3 .left) _ (sym (c .before .before .before .before .opener-at .ensures) ∙ c .before .before .enum-told .given .1))
 
 cast-chain : tie.Need-cast-chain Inv-loop μ-loop
 cast-chain c = omega (arith, opener-read _ _ _ (sym (c .before .before .before .opener-at .ensures) ∙ c .before .next .given .1))
@@ -59,11 +59,14 @@ climb-from-spec =
     (λ c κs. search needs)
     returns
     (λ c κs. search needs)
+    (λ c κs. search needs)
     returns-2
+    (λ c κs. search needs)
     (λ c κs. search needs)
     returns-3
     (λ c κs. search needs)
     (λ c. search needs)
+    (λ c κs. search needs)
     (λ c κs. search needs)
     returns-4
     (λ c. search needs)

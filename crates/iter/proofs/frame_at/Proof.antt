@@ -14,18 +14,18 @@ returns c = simp (le-leb _ _ (c .if1 .taken))
 
 returns-2 : tie.Need-returns-2
 unfolding frameAt
-returns-2 c = ap Refused (c .refused .ensures) ∙ simp (lt-leb _ _ (c .before .before .if1 .left), lt-ltb _ _ (c .before .if2 .taken))
+returns-2 c = ap Refused (c .at .ensures) ∙ simp (lt-leb _ _ (c .before .before .if1 .left), lt-ltb _ _ (c .before .if2 .taken))
 
 returns-3 : tie.Need-returns-3
 unfolding frameAt
 returns-3 c =
-    ap Refused (c .refused2 .ensures)
+    ap Refused (c .at2 .ensures)
     ∙ rw (← c .before .before .u16-at .ensures) (simp (lt-leb _ _ (c .before .before .before .before .if1 .left), le-ltb _ _ (c .before .before .before .if2 .left), lt-ltb _ _ (c .before .if3 .taken)))
 
 returns-4 : tie.Need-returns-4
 unfolding frameAt
 returns-4 c =
-    ap Refused (c .refused3 .ensures)
+    ap Refused (c .at3 .ensures)
     ∙ rw (← c .before .before .before .u16-at .ensures) (simp (lt-leb _ _ (c .before .before .before .before .before .if1 .left), le-ltb _ _ (c .before .before .before .before .if2 .left), le-ltb _ _ (c .before .before .if3 .left), lt-ltb _ _ (c .before .if4 .taken)))
 
 returns-5 : tie.Need-returns-5

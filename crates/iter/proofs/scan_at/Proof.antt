@@ -7,7 +7,7 @@ use Rattle.iter.proofs.scan_at.Statement.{statement}
 use Rattle.iter.proofs.scan_at.Tie as tie
 
 returns : tie.Need-returns
-returns c = c .scanned .ensures ∙ rw (c .before .refused .ensures) (scan-long _ _ (c .before .before .if1 .taken))
+returns c = c .scanned .ensures ∙ rw (c .before .at .ensures) (scan-long _ _ (c .before .before .if1 .taken))
 
 returns-2 : tie.Need-returns-2
 returns-2 c = c .scan-within .ensures ∙ scan-inside _ _ (c .before .before .if1 .left) (c .before .if2 .taken)

@@ -12,16 +12,16 @@ use Rattle.iter.proofs.scan_within.Statement.{statement}
 use Rattle.iter.proofs.scan_within.Tie as tie
 
 abbrev Inv-loop : tie.InvT-loop
-Inv-loop s from p₀ passed₀ skipped₀ p passed skipped = Comes s (scanFrom (suc (length s)) s from) p passed skipped
+Inv-loop s from p₀ fillers₀ fillerBytes₀ p fillers fillerBytes = Comes s (scanFrom (suc (length s)) s from) p fillers fillerBytes
 
 abbrev μ-loop : tie.MeasureT-loop
-μ-loop s from p₀ passed₀ skipped₀ p passed skipped = length s - p
+μ-loop s from p₀ fillers₀ fillerBytes₀ p fillers fillerBytes = length s - p
 
 -- the frame that the turn found
 found : (c : tie.After-known-told2 Inv-loop μ-loop) → frameAt (c .before .before .before .before .before .before .args .s .now) (c .before .before .before .before .loop .p) ≡ Whole (c .before .kind .given .0 .0) (c .before .kind .given .0 .1 .0)
 found c = sym (c .before .before .before .frame-at .ensures) ∙ c .before .kind .given .1
 
-fits : (c : tie.After-known-told2 Inv-loop μ-loop) → Fits (c .before .before .before .before .before .before .args .s .now) (c .before .before .before .before .loop .p) (c .before .kind .given .0 .1 .0)
+fits : (c : tie.After-known-told2 Inv-loop μ-loop) → Fits (c .before .before .before .before .before .before .args .s .now) (c .before .before .before .before .loop .p) (c .before .kind .given .0 .0) (c .before .kind .given .0 .1 .0)
 fits c = whole-fits _ _ _ _ (found c)
 
 loop-holds : tie.Need-loop-holds Inv-loop μ-loop
@@ -39,14 +39,14 @@ add-start c = omega (arith, fits c)
 add-after : tie.Need-add-after Inv-loop μ-loop
 add-after c = omega (arith, fits c)
 
-add-passed : tie.Need-add-passed Inv-loop μ-loop
-add-passed c = omega (arith, fits (c .before .before), c .before .before .before .before .before .before .loop .inv)
+add-fillers : tie.Need-add-fillers Inv-loop μ-loop
+add-fillers c = omega (arith, fits (c .before .before), c .before .before .before .before .before .before .loop .inv)
 
-add-skipped : tie.Need-add-skipped Inv-loop μ-loop
-add-skipped c = omega (arith, fits (c .before .before), c .before .before .before .before .before .before .loop .inv)
+add-filler-bytes : tie.Need-add-filler-bytes Inv-loop μ-loop
+add-filler-bytes c = omega (arith, fits (c .before .before), c .before .before .before .before .before .before .loop .inv)
 
-add-skipped-2 : tie.Need-add-skipped-2 Inv-loop μ-loop
-add-skipped-2 c = omega (arith, fits (c .before .before), c .before .before .before .before .before .before .loop .inv)
+add-filler-bytes-2 : tie.Need-add-filler-bytes-2 Inv-loop μ-loop
+add-filler-bytes-2 c = omega (arith, fits (c .before .before), c .before .before .before .before .before .before .loop .inv)
 
 loop-less : tie.Need-loop-less Inv-loop μ-loop
 loop-less c = omega (arith, fits (c .before .before))
@@ -75,9 +75,9 @@ scan-within-spec =
     add-start
     add-after
     (λ c κs. search needs)
-    add-passed
-    add-skipped
-    add-skipped-2
+    add-fillers
+    add-filler-bytes
+    add-filler-bytes-2
     loop-less
     loop-again
     (λ c κs. search needs)

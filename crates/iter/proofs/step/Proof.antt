@@ -9,7 +9,7 @@ use Rattle.iter.proofs.step.Tie as tie
 
 returns : tie.Need-returns
 unfolding stepOf
-returns c = ap (λ (x : Scan). x .next) (c .scan-at .ensures)
+returns c = ap (λ (x : Scan). x .step) (c .scan-at .ensures)
 
 pub step-spec : {M : Type 1} → statement M
 step-spec = tie.close (tie.spec (λ c κs. search needs) returns)

@@ -1,4 +1,4 @@
--- `jump::jump` meets its contract. The loop's invariant: the walk from the start ends as the walk from here does.
+-- `jump::jump` meets its contract. The loop's invariant: the search from the start ends as the search from here does.
 -- Assumes nothing.
 use borrow.Author.Needs.{needs}
 use native.Mathlib.Omega.{arith}
@@ -8,9 +8,10 @@ use lib.ListN.{length}
 use Rattle.iter.specs.Step.{scanOf, stepOf}
 use Rattle.iter.specs.declared.Next.the-variants.{Record}
 use Rattle.iter.proofs.Reading.{step-fits}
+use Rattle.iter.proofs.Records.{kind-lent}
 use Rattle.chain.proofs.Goings.{going-first}
 use Rattle.jump.proofs.Hops.{push-room}
-use Rattle.jump.proofs.Jumps.{Jumping, at-end, at-refused, going-stay, going-push, over, going-over, at-miss, at-found, at-stop}
+use Rattle.jump.proofs.Jumps.{Jumping, at-end, at-refused, going-stay, going-push, over, going-over, at-miss, at-found, at-refusing}
 use Rattle.jump.proofs.jump.Statement.{statement}
 use Rattle.jump.proofs.jump.Tie as tie
 
@@ -22,10 +23,10 @@ abbrev μ-loop : tie.MeasureT-loop
 
 -- the record that the step yielded
 stepped : (c : tie.After-known-told2 Inv-loop μ-loop) →
-    scanOf (c .before .before .before .before .before .before .before .args .s .now) (c .before .before .before .before .loop .at) .next
-    ≡ Record (c .before .index .given .0 .0) (c .before .index .given .0 .1 .0) (c .before .index .given .0 .1 .1 .0) (c .before .index .given .0 .1 .1 .1 .0)
+    scanOf (c .before .before .before .before .before .before .before .args .s .now) (c .before .before .before .before .loop .at) .step
+    ≡ Record (c .before .kind .given .0 .0) (c .before .kind .given .0 .1 .0) (c .before .kind .given .0 .1 .1 .0) (c .before .kind .given .0 .1 .1 .1 .0) (c .before .kind .given .0 .1 .1 .1 .1 .0)
 unfolding stepOf
-stepped c = sym (c .before .before .before .step .ensures) ∙ c .before .index .given .1
+stepped c = sym (c .before .before .before .step .ensures) ∙ c .before .kind .given .1
 
 -- a push has room
 pushes : (c : tie.After-enum-told3 Inv-loop μ-loop) → c .before .before .before .before .before .before .before .before .loop .chain .depth < 64
@@ -35,10 +36,10 @@ loop-holds : tie.Need-loop-holds Inv-loop μ-loop
 loop-holds c = going-first _ _ _ _ (c .new .ensures)
 
 returns : tie.Need-returns Inv-loop μ-loop
-returns c = c .stopped .ensures ∙ at-end _ _ _ _ _ _ (c .before .before .before .before .loop .inv) _ (sym (c .before .before .before .step .ensures) ∙ c .before .enum-told .given .1)
+returns c = c .refused .ensures ∙ rw (c .before .at .ensures) (at-end _ _ _ _ _ _ (c .before .before .before .before .before .loop .inv) _ (sym (c .before .before .before .before .step .ensures) ∙ c .before .before .enum-told .given .1))
 
 returns-2 : tie.Need-returns-2 Inv-loop μ-loop
-returns-2 c = c .refused .ensures ∙ at-refused _ _ _ _ _ _ (c .before .before .before .before .before .loop .inv) _ (sym (c .before .before .before .before .step .ensures) ∙ c .before .before .e .given .1)
+returns-2 c = c .refused2 .ensures ∙ at-refused _ _ _ _ _ _ (c .before .before .before .before .before .loop .inv) _ (sym (c .before .before .before .before .step .ensures) ∙ c .before .before .e .given .1)
 
 add-read : tie.Need-add-read Inv-loop μ-loop
 add-read c = omega (arith, c .before .before .before .before .loop .inv, step-fits _ _ _ _ _ _ (stepped c))
@@ -51,6 +52,9 @@ part-hop-at-start c = omega (arith, step-fits _ _ _ _ _ _ (stepped c))
 
 part-hop-at-end : tie.Need-part-hop-at-end Inv-loop μ-loop
 part-hop-at-end c = omega (arith, step-fits _ _ _ _ _ _ (stepped c))
+
+hop-at-requires : tie.Need-hop-at-requires Inv-loop μ-loop
+hop-at-requires c κs = kind-lent _ _ _ _ _ _ (stepped (c .before))
 
 loop-less : tie.Need-loop-less Inv-loop μ-loop
 loop-less c = omega (arith, c .before .before .before .before .before .before .before .before .loop .inv, step-fits _ _ _ _ _ _ (stepped (c .before .before .before .before)))
@@ -86,13 +90,13 @@ loop-again-3 : tie.Need-loop-again-3 Inv-loop μ-loop
 loop-again-3 c = going-over _ _ _ _ _ _ (c .before .before .before .before .before .before .before .before .before .before .before .before .before .loop .inv) _ _ _ _ (stepped (c .before .before .before .before .before .before .before .before .before)) _ _ (sym (c .before .before .before .before .before .before .before .hop-at .ensures) ∙ c .before .before .before .before .before .end .given .1) (sym (c .before .before .before .land-at .ensures) ∙ c .before .after .given .1)
 
 returns-3 : tie.Need-returns-3 Inv-loop μ-loop
-returns-3 c = c .refused2 .ensures ∙ at-miss _ _ _ _ _ _ (c .before .before .before .before .before .before .before .before .before .before .before .before .before .before .loop .inv) _ _ _ _ (stepped (c .before .before .before .before .before .before .before .before .before .before)) _ _ (sym (c .before .before .before .before .before .before .before .before .hop-at .ensures) ∙ c .before .before .before .before .before .before .end .given .1) (sym (c .before .before .before .before .land-at .ensures) ∙ c .before .before .e2 .given .1)
+returns-3 c = c .refused3 .ensures ∙ at-miss _ _ _ _ _ _ (c .before .before .before .before .before .before .before .before .before .before .before .before .before .before .loop .inv) _ _ _ _ (stepped (c .before .before .before .before .before .before .before .before .before .before)) _ _ (sym (c .before .before .before .before .before .before .before .before .hop-at .ensures) ∙ c .before .before .before .before .before .before .end .given .1) (sym (c .before .before .before .before .land-at .ensures) ∙ c .before .before .e2 .given .1)
 
 returns-4 : tie.Need-returns-4 Inv-loop μ-loop
 returns-4 c = c .found .ensures ∙ at-found _ _ _ _ _ _ (c .before .before .before .before .before .before .before .before .before .loop .inv) _ _ _ _ (stepped (c .before .before .before .before .before)) (sym (c .before .before .before .hop-at .ensures) ∙ c .before .enum-told4 .given .1)
 
 returns-5 : tie.Need-returns-5 Inv-loop μ-loop
-returns-5 c = c .stopped2 .ensures ∙ at-stop _ _ _ _ _ _ (c .before .before .before .before .before .before .before .before .before .before .loop .inv) _ _ _ _ (stepped (c .before .before .before .before .before .before)) _ (sym (c .before .before .before .before .hop-at .ensures) ∙ c .before .before .number .given .1)
+returns-5 c = c .refused4 .ensures ∙ at-refusing _ _ _ _ _ _ (c .before .before .before .before .before .before .before .before .before .before .loop .inv) _ _ _ _ (stepped (c .before .before .before .before .before .before)) _ (sym (c .before .before .before .before .hop-at .ensures) ∙ c .before .before .e3 .given .1)
 
 pub jump-spec : {M : Type 1} → statement M
 jump-spec =
@@ -105,6 +109,7 @@ jump-spec =
     (λ c κs. search needs)
     (λ c. search needs)
     (λ c κs. search needs)
+    (λ c κs. search needs)
     returns
     (λ c. search needs)
     (λ c κs. search needs)
@@ -114,7 +119,7 @@ jump-spec =
     sub-hop-at
     part-hop-at-start
     part-hop-at-end
-    (λ c κs. search needs)
+    hop-at-requires
     (λ c. search needs)
     loop-less
     loop-again

@@ -15,8 +15,8 @@ use Rattle.listing.proofs.print_listing.Tie as tie
 
 -- where the record that a step answers lies
 stepped :
-    (s : List ℕ) (at index start len next : ℕ) (answer : Next) →
-    answer ≡ stepOf s at → answer ≡ Record index start len next → Stepped s at index start len next
+    (s : List ℕ) (at index start len next : ℕ) {kind : ℕ} (answer : Next) →
+    answer ≡ stepOf s at → answer ≡ Record kind index start len next → Stepped s at index start len next
 unfolding stepOf
 stepped s at index start len next answer e r = step-fits s at index start len next (sym e ∙ r)
 

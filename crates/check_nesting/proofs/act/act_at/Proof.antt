@@ -3,32 +3,33 @@
 use borrow.Author.Needs.{needs}
 use mathlib.Core.Path.{sym, _∙_}
 use borrow.Author.Tests.{eq-eqb, ne-eqb}
+use Rattle.iter.proofs.Records.{role-of}
 use Rattle.check_nesting.specs.Act.{actOf}
 use Rattle.check_nesting.proofs.act.act_at.Statement.{statement}
 use Rattle.check_nesting.proofs.act.act_at.Tie as tie
 
 open-at-requires : tie.Need-open-at-requires
-open-at-requires c κs = sym (c .before .before .before .nesting-role .ensures) ∙ c .before .enum-told .given .1
+open-at-requires c κs = role-of _ _ (c .before .before .before .before .before .pre .0) (sym (c .before .before .before .nesting-role .ensures) ∙ c .before .enum-told .given .1)
 
 returns : tie.Need-returns
 unfolding actOf
-returns c = rw (sym (c .before .before .before .before .nesting-role .ensures) ∙ c .before .before .enum-told .given .1, sym (c .before .innermost .ensures)) (c .open-at .ensures)
+returns c = rw (role-of _ _ (c .before .before .before .before .before .before .pre .0) (sym (c .before .before .before .before .nesting-role .ensures) ∙ c .before .before .enum-told .given .1), sym (c .before .innermost .ensures)) (c .open-at .ensures)
 
 returns-2 : tie.Need-returns-2
 unfolding actOf
-returns-2 c = rw (sym (c .before .before .before .nesting-role .ensures) ∙ c .before .enum-told2 .given .1, eq-eqb _ _ (c .if1 .taken))
+returns-2 c = rw (c .at .ensures, role-of _ _ (c .before .before .before .before .before .before .pre .0) (sym (c .before .before .before .before .nesting-role .ensures) ∙ c .before .before .enum-told2 .given .1), eq-eqb _ _ (c .before .if1 .taken))
 
 returns-3 : tie.Need-returns-3
 unfolding actOf
-returns-3 c = rw (sym (c .before .before .before .before .before .nesting-role .ensures) ∙ c .before .before .before .enum-told2 .given .1, ne-eqb _ _ (c .before .before .if1 .left), sym (c .before .innermost2 .ensures), ne-eqb _ _ (c .if2 .taken))
+returns-3 c = rw (c .at2 .ensures, role-of _ _ (c .before .before .before .before .before .before .before .before .pre .0) (sym (c .before .before .before .before .before .before .nesting-role .ensures) ∙ c .before .before .before .before .enum-told2 .given .1), ne-eqb _ _ (c .before .before .before .if1 .left), sym (c .before .before .innermost2 .ensures), ne-eqb _ _ (c .before .if2 .taken))
 
 returns-4 : tie.Need-returns-4
 unfolding actOf
-returns-4 c = rw (sym (c .before .before .before .before .before .nesting-role .ensures) ∙ c .before .before .before .enum-told2 .given .1, ne-eqb _ _ (c .before .before .if1 .left), sym (c .before .innermost2 .ensures), eq-eqb _ _ (c .if2 .left))
+returns-4 c = rw (role-of _ _ (c .before .before .before .before .before .before .before .pre .0) (sym (c .before .before .before .before .before .nesting-role .ensures) ∙ c .before .before .before .enum-told2 .given .1), ne-eqb _ _ (c .before .before .if1 .left), sym (c .before .innermost2 .ensures), eq-eqb _ _ (c .if2 .left))
 
 returns-5 : tie.Need-returns-5
 unfolding actOf
-returns-5 c = rw (sym (c .before .before .nesting-role .ensures) ∙ c .enum-told3 .given .1)
+returns-5 c = rw (role-of _ _ (c .before .before .before .before .pre .0) (sym (c .before .before .nesting-role .ensures) ∙ c .enum-told3 .given .1))
 
 pub act-at-spec : {M : Type 1} → statement M
 act-at-spec =
@@ -40,9 +41,11 @@ act-at-spec =
     open-at-requires
     returns
     (λ c. search needs)
+    (λ c κs. search needs)
     returns-2
     (λ c κs. search needs)
     (λ c. search needs)
+    (λ c κs. search needs)
     returns-3
     returns-4
     (λ c. search needs)
