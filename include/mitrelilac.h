@@ -17,9 +17,9 @@
  *
  * Fillers (kinds S_ALIGN 0x0402 and S_SKIP 0x0007) are passed over wherever records are read.
  *
- * A scope is opened by an opener (procedures, blocks, thunks, inline sites, ..; not S_LPROC32_ID, as in pdb) and closed by a closer
- * (S_END 0x0006, S_INLINESITE_END 0x114e, S_PROC_ID_END 0x114f). An opener's parent field is the index of the opener around it, 0 if
- * there is none, its end field the index of its closer.
+ * A scope is opened by an opener (procedures, blocks, thunks, inline sites, ..; as in pdb not the local procedures by id, S_LPROC32_ID,
+ * S_LPROCMIPS_ID and S_LPROCIA64_ID) and closed by a closer (S_END 0x0006, S_INLINESITE_END 0x114e, S_PROC_ID_END 0x114f). An opener's
+ * parent field is the index of the opener around it, 0 if there is none, its end field the index of its closer.
  *
  *
  * RULES OF EVERY CALL

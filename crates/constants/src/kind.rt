@@ -2,7 +2,7 @@
 // any length.
 ghost use mathlib.Core.Path.{_≡_};
 ghost use Rattle.constants.specs.Kind.{opens, closes, startsScope, endsScope};
-ghost use Rattle.constants.specs.Raw.{rawKind, nestingRoleOf};
+ghost use Rattle.constants.specs.Raw.{rawKind};
 use super::Role;
 
 // The kind; 0 below 2 bytes.
@@ -47,11 +47,4 @@ pub fn ends_scope(s: &[u8]) -> bool
     ensures { λ r. ⌜ r ≡ endsScope (rawKind (now (s .entry))) ⌝ }
 {
     closes(super::role_of(raw_kind(s)))
-}
-
-// What the check and the finders take the record for.
-pub fn nesting_role(s: &[u8]) -> Role
-    ensures { λ r. ⌜ r ≡ nestingRoleOf (now (s .entry)) ⌝ }
-{
-    super::role_of(raw_kind(s))
 }

@@ -65,7 +65,7 @@ pub extern "C" fn mitrelilac_register_entry(rec: &[u8], k: usize, out: &mut [u64
     reply::operation::reply_entry(symbol::register_entry::register_entry(rec, k), out)
 }
 
-// The nesting check from a start: records read and their bytes, records passed over and theirs, openers, deepest nesting.
+// The nesting check from a start: records read and their bytes, fillers passed over and theirs, openers, deepest nesting.
 #[no_mangle]
 pub extern "C" fn mitrelilac_check(stream: &[u8], start: usize, out: &mut [u64; 6]) -> u32
     ensures { λ r. ⌜ Replied (checkReply (checkOf (now (stream .entry)) start)) r (now (out .entry)) (now (out .exit)) ⌝ }

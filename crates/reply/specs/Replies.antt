@@ -44,7 +44,7 @@ abbrev pub entryReply : Read RegisterEntry → Reply
 entryReply (value e to) = answers (e .register ∷ e .name .start ∷ e .name .len ∷ [])
 entryReply (refused e) = refusalReply e
 
--- Check: records yielded and their bytes, records passed over and theirs, openers, deepest nesting
+-- Check: records yielded and their bytes, fillers and theirs, openers, deepest nesting
 abbrev pub checkReply : Checked → Reply
 checkReply (C.Good n) = answers (n .records ∷ n .bytes ∷ n .fillers ∷ n .«filler_bytes» ∷ n .openers ∷ n .deepest ∷ [])
 checkReply (C.Refused e) = refusalReply e

@@ -6,6 +6,7 @@ ghost use Rattle.common.specs.Reader.{refused, refusal};
 use super::name::Named;
 use common::Refusal;
 use common::unsigned::ParsedU16;
+use constants::classes::MULTI_REGISTER_VARIABLE;
 use registers::REGISTER_COUNT;
 use registers::entry::ParsedEntry;
 
@@ -18,7 +19,7 @@ fn nothing_there() -> ParsedEntry
 fn is_list(kind: u16) -> bool
     ensures { λ r. ⌜ r ≡ isList kind ⌝ }
 {
-    constants::class_number(kind) == 6
+    constants::class_number(kind) as u64 == MULTI_REGISTER_VARIABLE
 }
 
 // The entry k of a list whose count and first entry were found.

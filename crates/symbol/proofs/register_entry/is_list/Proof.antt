@@ -13,4 +13,4 @@ unfolding isList
 returns c = ap (λ (n : ℕ). eqb n 6) (c .class-number .ensures)
 
 pub is-list-spec : {M : Type 1} → statement M
-is-list-spec = tie.close (tie.spec (λ c κs. search needs) returns)
+is-list-spec = tie.close (tie.spec (λ c κs. search needs) (λ c. search needs) returns)
