@@ -6,7 +6,8 @@ use Rattle.constants.specs.Kind.{startsScope, endsScope}
 use Rattle.records.specs.declared.OptionPart.the-variants.{None, Some}
 use Rattle.records.specs.declared.SymbolData.{SymbolData}
 use Rattle.record_words.specs.Record.{recordWords}
-use Rattle.registers.specs.declared.entry.RegisterEntry.{RegisterEntry}
+use Rattle.symbol.specs.declared.register_entry.Listed.{Listed}
+use Rattle.symbol.specs.declared.register_entry.Listed.the-variants as E
 use Rattle.symbol.specs.declared.name.Named.{Named}
 use Rattle.symbol.specs.declared.name.Named.the-variants as M
 use Rattle.iter.specs.declared.Next.{Next}
@@ -40,9 +41,9 @@ nameReply (M.Answer None) = answers (0 ∷ 0 ∷ 0 ∷ [])
 nameReply (M.Refused e) = refusalReply e
 
 -- Register entry: "the register and the part that is its name"
-abbrev pub entryReply : Read RegisterEntry → Reply
-entryReply (value e to) = answers (e .register ∷ e .name .start ∷ e .name .len ∷ [])
-entryReply (refused e) = refusalReply e
+abbrev pub entryReply : Listed → Reply
+entryReply (E.Answer x) = answers (x .register ∷ x .name .start ∷ x .name .len ∷ [])
+entryReply (E.Refused e) = refusalReply e
 
 -- Check: records yielded and their bytes, fillers and theirs, openers, deepest nesting
 abbrev pub checkReply : Checked → Reply

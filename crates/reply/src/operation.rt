@@ -1,12 +1,11 @@
 // The replies of step, name, register entry and check. A part of a record is told by where it starts and how long it is.
 ghost use Rattle.reply.specs.Reply.{Replied};
-ghost use Rattle.registers.specs.EntryAnswer.{entryOf};
 ghost use Rattle.reply.specs.Replies.{stepReply, nameReply, entryReply, checkReply};
 use check_nesting::Checked;
 use iter::Next;
 use records::OptionPart;
-use registers::entry::ParsedEntry;
 use symbol::name::Named;
+use symbol::register_entry::Listed;
 
 // End: 0, position. A record: 1, index, its bytes, next position.
 pub fn reply_step(answer: Next, out: &mut [u64; 5]) -> u32
@@ -51,11 +50,11 @@ pub fn reply_name(answer: Named, out: &mut [u64; 3]) -> u32
 }
 
 // The register and its name.
-pub fn reply_entry(answer: ParsedEntry, out: &mut [u64; 3]) -> u32
-    ensures { λ r. ⌜ Replied (entryReply (entryOf answer)) r (now (out .entry)) (now (out .exit)) ⌝ }
+pub fn reply_entry(answer: Listed, out: &mut [u64; 3]) -> u32
+    ensures { λ r. ⌜ Replied (entryReply answer) r (now (out .entry)) (now (out .exit)) ⌝ }
 {
     match answer {
-        ParsedEntry::Value(entry, _) => {
+        Listed::Answer(entry) => {
             let name = entry.name;
             words::put::put3(
                 out,
@@ -65,11 +64,11 @@ pub fn reply_entry(answer: ParsedEntry, out: &mut [u64; 3]) -> u32
             );
             return 0;
         }
-        ParsedEntry::Refused(e) => return super::refuse(out, e),
+        Listed::Refused(e) => return super::refuse(out, e),
     }
 }
 
-// Records read and their bytes, records passed over and theirs, openers, deepest nesting.
+// Records read and their bytes, fillers passed over and theirs, openers, deepest nesting.
 pub fn reply_check(answer: Checked, out: &mut [u64; 6]) -> u32
     ensures { λ r. ⌜ Replied (checkReply answer) r (now (out .entry)) (now (out .exit)) ⌝ }
 {

@@ -1,64 +1,67 @@
 // An entry of a register list, on demand: pdb keeps a Vec of them.
 ghost use mathlib.Core.Path.{_≡_};
-ghost use Rattle.registers.specs.EntryAnswer.{entryOf};
-ghost use Rattle.symbol.specs.Entry.{isList, countedEntry, listEntry, registerEntry};
-ghost use Rattle.common.specs.Reader.{refused, refusal};
+ghost use lib.Dec.{eqb};
+ghost use Rattle.common.specs.Reader.{refusal};
+ghost use Rattle.constants.specs.Kind.{classOf, classNumber};
+ghost use Rattle.constants.specs.declared.Class.the-variants.{MultiRegisterVariable};
+ghost use Rattle.symbol.specs.Entry.{entryOf, registerEntry};
 use super::name::Named;
 use common::Refusal;
 use common::unsigned::ParsedU16;
 use constants::classes::MULTI_REGISTER_VARIABLE;
 use registers::REGISTER_COUNT;
 use registers::entry::ParsedEntry;
+use registers::entry::RegisterEntry;
 
-fn nothing_there() -> ParsedEntry
-    ensures { λ r. ⌜ entryOf r ≡ refused (refusal 14 0 0) ⌝ }
+// The register and its name, or why there is none.
+pub enum Listed {
+    // The entry.
+    Answer(RegisterEntry),
+
+    // Decode's refusal, or that the record has no such entry.
+    Refused(Refusal),
+}
+
+fn nothing_there() -> Listed
+    ensures { λ r. ⌜ r ≡ Listed.Refused (refusal 14 0 0) ⌝ }
 {
-    ParsedEntry::Refused(Refusal::at(Refusal::NOTHING_THERE, 0))
+    Listed::Refused(Refusal::at(Refusal::NOTHING_THERE, 0))
 }
 
 fn is_list(kind: u16) -> bool
-    ensures { λ r. ⌜ r ≡ isList kind ⌝ }
+    ensures { λ r. ⌜ r ≡ eqb (classNumber (classOf kind)) (classNumber MultiRegisterVariable) ⌝ }
 {
     constants::class_number(kind) as u64 == MULTI_REGISTER_VARIABLE
 }
 
-// The entry k of a list whose count and first entry were found.
-fn counted_entry(s: &[u8], first: usize, kind: u16, count: u16, k: usize) -> ParsedEntry
-    ensures { λ r. ⌜ entryOf r ≡ countedEntry kind count k (now (s .entry)) first ⌝ }
+// The entry k of so many, the first of which stands at a position.
+fn counted_entry(s: &[u8], first: usize, kind: u16, count: u16, k: usize) -> Listed
+    ensures { λ r. ⌜ r ≡ entryOf (now (s .entry)) kind k (record { count = count; first = first }) ⌝ }
 {
-    if k < count as usize {
-        registers::entry::entry_of_list(s, first, kind, k as u16)
-    } else {
-        nothing_there()
+    if count as usize <= k {
+        return nothing_there();
     }
-}
-
-// The entry k of a record of a list's kind.
-fn list_entry(s: &[u8], kind: u16, k: usize) -> ParsedEntry
-    ensures { λ r. ⌜ entryOf r ≡ listEntry kind k (now (s .entry)) 2 ⌝ }
-{
-    if s.len() < REGISTER_COUNT {
-        return ParsedEntry::Refused(Refusal::RUNS_OUT);
-    }
-    match registers::parse_register_count(s, REGISTER_COUNT, kind) {
-        ParsedU16::Value(count, first) => counted_entry(s, first, kind, count, k),
-        ParsedU16::Refused(e) => ParsedEntry::Refused(e),
+    match registers::entry::entry_of_list(s, first, kind, k as u16) {
+        ParsedEntry::Value(entry, _) => return Listed::Answer(entry),
+        ParsedEntry::Refused(e) => return Listed::Refused(e),
     }
 }
 
 // Name has decode's refusals, and builds no typed record.
-pub fn register_entry(s: &[u8], k: usize) -> ParsedEntry
-    ensures { λ r. ⌜ entryOf r ≡ registerEntry (now (s .entry)) k ⌝ }
+pub fn register_entry(s: &[u8], k: usize) -> Listed
+    ensures { λ r. ⌜ r ≡ registerEntry (now (s .entry)) k ⌝ }
 {
     match super::name::name(s) {
         Named::Answer(_) => {
             let kind = constants::kind::raw_kind(s);
-            if is_list(kind) {
-                list_entry(s, kind, k)
-            } else {
-                nothing_there()
+            if !is_list(kind) {
+                return nothing_there();
+            }
+            match registers::parse_register_count(s, REGISTER_COUNT, kind) {
+                ParsedU16::Value(count, first) => return counted_entry(s, first, kind, count, k),
+                ParsedU16::Refused(e) => return Listed::Refused(e),
             }
         }
-        Named::Refused(e) => ParsedEntry::Refused(e),
+        Named::Refused(e) => return Listed::Refused(e),
     }
 }
