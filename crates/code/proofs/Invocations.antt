@@ -9,7 +9,7 @@ use borrow.Author.Tests.{eq-eqb, ne-eqb, leb-true}
 use lib.ListN.{length}
 use lib.Dec.{eqb, leb}
 use Rattle.common.specs.Bytes.{le}
-use Rattle.common.specs.Reader.{Read, value, refused, runsOut, done, _>>=_, uint}
+use Rattle.common.specs.Reader.{value, refused, runsOut, done, _>>=_, uint}
 use Rattle.common.specs.declared.Refusal.{Refusal}
 use Rattle.common.proofs.Readers.{uint-value, uint-short, then-value, then-refused}
 use Rattle.records.specs.declared.OptionU32.{OptionU32}

@@ -9,7 +9,7 @@ use lib.ListN.{length}
 use lib.Dec.{ltb, leb, eqb}
 use borrow.Author.Tests.{leb-true, leb-false, eqb-true, le-ltb}
 use Rattle.common.specs.Bytes.{le}
-use Rattle.common.specs.Reader.{Read, value, refused, runsOut, refusal, Reader, next, _>>=_, uint, u32}
+use Rattle.common.specs.Reader.{Read, value, refused, runsOut, refusal, Reader, next, _>>=_, uint}
 use Rattle.common.specs.declared.Refusal.{Refusal}
 use Rattle.constants.specs.Kind.{kinds, class, role, opens, classOf, classNumber, roleOf as kindRole, nestingRole}
 use Rattle.constants.specs.Listed.{among}

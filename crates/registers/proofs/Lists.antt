@@ -1,16 +1,15 @@
 -- What reading a register list gives.
 -- Assumes nothing.
 use Prim.Native.Nat.{ℕ, _≤_}
-use mathlib.Core.Path.{_≡_, refl, ap, sym, _∙_}
+use mathlib.Core.Path.{_≡_, refl, sym, _∙_}
 use mathlib.Core.List.{List}
 use mathlib.Core.Bool.{true, false}
 use lib.ListN.{length}
 use Rattle.common.specs.Bytes.{le}
-use Rattle.common.specs.Reader.{Read, value, refused, done, _>>=_, uint}
+use Rattle.common.specs.Reader.{value, refused, done, _>>=_, uint}
 use Rattle.common.specs.declared.Refusal.{Refusal}
 use Rattle.common.proofs.Readers.{then-value, then-refused}
 use Rattle.common.proofs.Rows.{Row, last, uint-fixed}
-use Rattle.records.specs.declared.SymbolData.{SymbolData}
 use Rattle.records.specs.declared.SymbolData.the-variants.{MultiRegisterVariable}
 use Rattle.registers.specs.Entries.{skip}
 use Rattle.registers.specs.Registers.{longList, registerCount, position, multiRegisterVariable}

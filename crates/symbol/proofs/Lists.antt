@@ -11,7 +11,6 @@ use lib.Dec.{eqb, ltb, leb}
 use Rattle.common.specs.Bytes.{le}
 use Rattle.common.specs.Reader.{Read, value, refused, runsOut, refusal, Reader, next, _>>=_, uint}
 use Rattle.common.specs.declared.Refusal.{Refusal}
-use Rattle.common.proofs.Readers.{then-value, then-refused, uint-value}
 use Rattle.common.proofs.Rows.{Row}
 use Rattle.names.specs.Name.{symbolName}
 use Rattle.constants.specs.Kind.{classOf, classNumber}
@@ -33,8 +32,7 @@ use Rattle.data.proofs.Rows.{constant-row, data-row, local-row, register-relati
 use Rattle.symbol.specs.Decode.{layout, byKind, decode}
 use Rattle.symbol.specs.Name.{nameIn, answered, nameOf}
 use Rattle.symbol.specs.declared.name.Named.the-variants as N
-use Rattle.symbol.specs.Entry.{Entries, none, entriesIn, listed, entryOf, entryBy, registerEntry}
-use Rattle.symbol.specs.declared.register_entry.Listed.{Listed}
+use Rattle.symbol.specs.Entry.{none, entriesIn, listed, entryAmong, entryBy, registerEntry}
 use Rattle.symbol.specs.declared.register_entry.Listed.the-variants as L
 
 -- what was read is no register list
@@ -115,15 +113,15 @@ decoded-entries s {d} {to} e = by (ltb 65535 (length s)) (leb 2 (length s)) refl
 
 -- k is below the count, or not
 module _ (s : List ℕ) (kind k count first : ℕ) where
-  pub counted-below : k < count → {r : Read RegisterEntry} → r ≡ entryAt kind k s first → listed r ≡ entryOf s kind k (record { count = count; first = first })
-  unfolding entryOf
+  pub counted-below : k < count → {r : Read RegisterEntry} → r ≡ entryAt kind k s first → listed r ≡ entryAmong s kind k (record { count = count; first = first })
+  unfolding entryAmong
   counted-below h e = ap listed e ∙ rw (lt-ltb k count h)
 
-  pub counted-above : count ≤ k → L.Refused (refusal 14 0 0) ≡ entryOf s kind k (record { count = count; first = first })
-  unfolding entryOf
+  pub counted-above : count ≤ k → L.Refused (refusal 14 0 0) ≡ entryAmong s kind k (record { count = count; first = first })
+  unfolding entryAmong
   counted-above h = rw (le-ltb k count h)
 
-none-above : (s : List ℕ) (kind k : ℕ) → L.Refused (refusal 14 0 0) ≡ entryOf s kind k none
+none-above : (s : List ℕ) (kind k : ℕ) → L.Refused (refusal 14 0 0) ≡ entryAmong s kind k none
 none-above s kind k = counted-above s kind k 0 0 (omega arith)
 
 -- a list that was answered: its type was there, and its count and first entry are those that were read
@@ -164,18 +162,18 @@ module _ (s : List ℕ) (k : ℕ) {o : OptionPart} {kind : ℕ} (e : nameOf s �
       by : (x : Read SymbolData) → decode s ≡ x → answered nameIn x ≡ N.Answer o → L.Refused (refusal 14 0 0) ≡ entryBy s k x
       by (value d to) y n =
           let without : entriesIn d ≡ none = rw (← q, t) at (decoded-entries s y) in
-          none-above s (rawKind s) k ∙ ap (entryOf s (rawKind s) k) (sym without)
+          none-above s (rawKind s) k ∙ ap (entryAmong s (rawKind s) k) (sym without)
       by (refused y) p n = absurd (let z : _≡_ {A = ℕ} 0 1 = cc in omega arith)
 
   -- a list's count was read, as decode reads it
-  pub of-list : eqb (classNumber (classOf kind)) 6 ≡ true → {count first : ℕ} → value count first ≡ registerCount kind s 6 → entryOf s kind k (record { count = count; first = first }) ≡ registerEntry s k
+  pub of-list : eqb (classNumber (classOf kind)) 6 ≡ true → {count first : ℕ} → value count first ≡ registerCount kind s 6 → entryAmong s kind k (record { count = count; first = first }) ≡ registerEntry s k
   unfolding registerEntry nameOf
   of-list t {count} {first} p = by (decode s) refl e
     where
-      by : (x : Read SymbolData) → decode s ≡ x → answered nameIn x ≡ N.Answer o → entryOf s kind k (record { count = count; first = first }) ≡ entryBy s k x
+      by : (x : Read SymbolData) → decode s ≡ x → answered nameIn x ≡ N.Answer o → entryAmong s kind k (record { count = count; first = first }) ≡ entryBy s k x
       by (value d to) y n =
           let is : value d to ≡ multiRegisterVariable kind s 2 = rw (← q, t) at (decoded-entries s y) in
-          rw (← q) (ap (entryOf s kind k) (list-entries kind s is p))
+          rw (← q) (ap (entryAmong s kind k) (list-entries kind s is p))
       by (refused y) p' n = absurd (let z : _≡_ {A = ℕ} 0 1 = cc in omega arith)
 
   pub of-refused-count : eqb (classNumber (classOf kind)) 6 ≡ true → {x : Refusal} → refused x ≡ registerCount kind s 6 → L.Refused x ≡ registerEntry s k

@@ -4,12 +4,10 @@ use Prim.Native.Nat.{ℕ, _+_, _≤_, _<_}
 use mathlib.Core.Path.{_≡_, refl, ap, _∙_, sym}
 use mathlib.Core.List.{List}
 use mathlib.Core.Bool.{Bool, true, false, cond}
-use native.Mathlib.Omega.{arith}
-use borrow.Author.Tests.{ltb-true, ltb-false, leb-true, leb-false, lt-ltb, le-ltb}
-use lib.ListN.{length, drop, drop-of-length-le}
+use borrow.Author.Tests.{ltb-true, ltb-false, leb-true, leb-false}
+use lib.ListN.{length}
 use lib.Dec.{ltb, leb}
 use Rattle.common.specs.Reader.{Read, value, refused, runsOut, Reader, done, _>>=_}
-use Rattle.common.specs.declared.Refusal.{Refusal}
 use Rattle.common.proofs.Rows.{Row, tail-value, tail-refused}
 use Rattle.names.specs.Name.{symbolName}
 use Rattle.names.proofs.Names.{name-short}
@@ -18,7 +16,6 @@ use Rattle.records.specs.declared.OptionPart.{OptionPart}
 use Rattle.records.specs.declared.OptionPart.the-variants.{None}
 use Rattle.records.specs.declared.SymbolData.{SymbolData}
 use Rattle.symbol.specs.Name.{nameIn, answered}
-use Rattle.symbol.specs.declared.name.Named.{Named}
 use Rattle.symbol.specs.declared.name.Named.the-variants as N
 
 -- the layout of a class has a name at a position, of which `find` makes the answer
@@ -30,7 +27,7 @@ abbrev pub EndsAt : ℕ → Reader SymbolData → Type 0
 EndsAt at layout = (s : List ℕ) → cond (ltb (length s) at) (N.Refused runsOut) (N.Answer None) ≡ answered nameIn (layout s 2)
 
 module _ {m : Reader SymbolData} {to : ℕ} {s : List ℕ} (row : Row m 2 to s) where
-  -- what t reads behind the fields decides, where they are there; `short` is what it says where they are not
+  -- where the fields are there, what t reads behind them decides
   tail-name : {B : Type 0} (find : B → OptionPart) (t : Reader B) (make : B → SymbolData) → row .tail ≡ (t >>= λ b. done (make b)) → ((b : B) → nameIn (make b) ≡ find b) → to ≤ length s → answered find (t s to) ≡ answered nameIn (m s 2)
   tail-name {B} find t make behind named h = go (t s to) refl
     where

@@ -57,12 +57,12 @@ listed (value entry to) = L.Answer entry
 listed (refused e) = L.Refused e
 
 -- the entry k of those that a record of a kind has
-unfoldable pub entryOf : List ℕ → ℕ → ℕ → Entries → Listed
-entryOf s kind k entries =
+unfoldable pub entryAmong : List ℕ → ℕ → ℕ → Entries → Listed
+entryAmong s kind k entries =
     cond (ltb k (entries .count)) (listed (entryAt kind k s (entries .first))) (L.Refused (refusal 14 0 0))
 
 abbrev pub entryBy : List ℕ → ℕ → Read SymbolData → Listed
-entryBy s k (value d consumed) = entryOf s (rawKind s) k (entriesIn d)
+entryBy s k (value d consumed) = entryAmong s (rawKind s) k (entriesIn d)
 entryBy s k (refused e) = L.Refused e
 
 unfoldable pub registerEntry : List ℕ → ℕ → Listed

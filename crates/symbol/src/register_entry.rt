@@ -4,7 +4,7 @@ ghost use lib.Dec.{eqb};
 ghost use Rattle.common.specs.Reader.{refusal};
 ghost use Rattle.constants.specs.Kind.{classOf, classNumber};
 ghost use Rattle.constants.specs.declared.Class.the-variants.{MultiRegisterVariable};
-ghost use Rattle.symbol.specs.Entry.{entryOf, registerEntry};
+ghost use Rattle.symbol.specs.Entry.{entryAmong, registerEntry};
 use super::name::Named;
 use common::Refusal;
 use common::unsigned::ParsedU16;
@@ -36,7 +36,7 @@ fn is_list(kind: u16) -> bool
 
 // The entry k of so many, the first of which stands at a position.
 fn counted_entry(s: &[u8], first: usize, kind: u16, count: u16, k: usize) -> Listed
-    ensures { λ r. ⌜ r ≡ entryOf (now (s .entry)) kind k (record { count = count; first = first }) ⌝ }
+    ensures { λ r. ⌜ r ≡ entryAmong (now (s .entry)) kind k (record { count = count; first = first }) ⌝ }
 {
     if count as usize <= k {
         return nothing_there();

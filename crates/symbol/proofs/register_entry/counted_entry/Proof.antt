@@ -3,7 +3,6 @@
 use borrow.Author.Needs.{needs}
 use mathlib.Core.Path.{ap, sym, _∙_}
 use Rattle.registers.specs.EntryAnswer.{entryOf}
-use Rattle.symbol.specs.Entry.{listed}
 use Rattle.symbol.proofs.Lists.{counted-below, counted-above}
 use Rattle.symbol.proofs.register_entry.counted_entry.Statement.{statement}
 use Rattle.symbol.proofs.register_entry.counted_entry.Tie as tie
