@@ -29,7 +29,10 @@ pub fn parse_block(s: &[u8], kind: u16) -> Decoded
                 parent: common::u32_at(s, 2),
                 end: common::u32_at(s, 6),
                 len: common::u32_at(s, 10),
-                offset: records::field::place_at(s, 14),
+                offset: SectionOffset {
+                    offset: common::u32_at(s, 14),
+                    section: common::u16_at(s, 18),
+                },
                 name,
             };
             return Decoded::Record(SymbolData::Block(data), next);

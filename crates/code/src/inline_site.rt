@@ -42,7 +42,7 @@ pub fn parse_inline_site(s: &[u8], kind: u16) -> Decoded
     match parse_invocations(s, INVOCATIONS, kind) {
         ParsedInvocations::Value(invocations, start) => {
             let data = InlineSiteSymbol {
-                parent: records::field::index_at(s, 2),
+                parent: records::index_of(common::u32_at(s, 2)),
                 end: common::u32_at(s, 6),
                 inlinee: common::u32_at(s, 10),
                 invocations,

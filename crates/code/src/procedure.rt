@@ -12,6 +12,7 @@ use names::ParsedPart;
 use records::Decoded;
 use records::LabelSymbol;
 use records::ProcedureSymbol;
+use records::SectionOffset;
 use records::SymbolData;
 use records::flags::ProcedureFlags;
 
@@ -31,14 +32,17 @@ pub fn parse_procedure(s: &[u8], kind: u16) -> Decoded
             let data = ProcedureSymbol {
                 global: (kind == S_GPROC32) | (kind == S_GPROC32_ST) | (kind == S_GPROC32_ID),
                 dpc: (kind == S_LPROC32_DPC) | (kind == S_LPROC32_DPC_ID),
-                parent: records::field::index_at(s, 2),
+                parent: records::index_of(common::u32_at(s, 2)),
                 end: common::u32_at(s, 6),
-                next: records::field::index_at(s, 10),
+                next: records::index_of(common::u32_at(s, 10)),
                 len: common::u32_at(s, 14),
                 dbg_start_offset: common::u32_at(s, 18),
                 dbg_end_offset: common::u32_at(s, 22),
                 type_index: common::u32_at(s, 26),
-                offset: records::field::place_at(s, 30),
+                offset: SectionOffset {
+                    offset: common::u32_at(s, 30),
+                    section: common::u16_at(s, 34),
+                },
                 flags: ProcedureFlags::from_bits(common::u8_at(s, 36)),
                 name,
             };
@@ -57,7 +61,10 @@ pub fn parse_label(s: &[u8], kind: u16) -> Decoded
     match names::parse_symbol_name(s, LABEL_NAME, kind) {
         ParsedPart::Value(name, next) => {
             let data = LabelSymbol {
-                offset: records::field::place_at(s, 2),
+                offset: SectionOffset {
+                    offset: common::u32_at(s, 2),
+                    section: common::u16_at(s, 6),
+                },
                 flags: ProcedureFlags::from_bits(common::u8_at(s, 8)),
                 name,
             };

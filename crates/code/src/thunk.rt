@@ -7,6 +7,7 @@ use common::Refusal;
 use common::unsigned::ParsedU16;
 use names::ParsedPart;
 use records::Decoded;
+use records::SectionOffset;
 use records::SymbolData;
 use records::ThunkAdjustor;
 use records::ThunkKind;
@@ -70,10 +71,13 @@ pub fn parse_thunk(s: &[u8], kind: u16) -> Decoded
         ) {
             ParsedThunkKind::Value(variant, next) => {
                 let data = ThunkSymbol {
-                    parent: records::field::index_at(s, 2),
+                    parent: records::index_of(common::u32_at(s, 2)),
                     end: common::u32_at(s, 6),
-                    next: records::field::index_at(s, 10),
-                    offset: records::field::place_at(s, 14),
+                    next: records::index_of(common::u32_at(s, 10)),
+                    offset: SectionOffset {
+                        offset: common::u32_at(s, 14),
+                        section: common::u16_at(s, 18),
+                    },
                     len: common::u16_at(s, 20),
                     kind: variant,
                     name,

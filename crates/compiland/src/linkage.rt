@@ -31,7 +31,10 @@ pub fn parse_public(s: &[u8], kind: u16) -> Decoded
         ParsedPart::Value(name, next) => {
             let data = PublicSymbol {
                 flags: PublicFlags::from_bits(common::u32_at(s, 2)),
-                offset: records::field::place_at(s, 6),
+                offset: SectionOffset {
+                    offset: common::u32_at(s, 6),
+                    section: common::u16_at(s, 10),
+                },
                 name,
             };
             return Decoded::Record(SymbolData::Public(data), next);

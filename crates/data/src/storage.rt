@@ -14,6 +14,7 @@ use constants::S_LMANDATA_ST;
 use names::ParsedPart;
 use records::DataSymbol;
 use records::Decoded;
+use records::SectionOffset;
 use records::SymbolData;
 use records::ThreadStorageSymbol;
 
@@ -40,7 +41,10 @@ pub fn parse_data(s: &[u8], kind: u16) -> Decoded
                     | (kind == S_GMANDATA)
                     | (kind == S_GMANDATA_ST),
                 type_index: common::u32_at(s, 2),
-                offset: records::field::place_at(s, 6),
+                offset: SectionOffset {
+                    offset: common::u32_at(s, 6),
+                    section: common::u16_at(s, 10),
+                },
                 name,
             };
             return Decoded::Record(SymbolData::Data(data), next);
@@ -60,7 +64,10 @@ pub fn parse_thread_storage(s: &[u8], kind: u16) -> Decoded
             let data = ThreadStorageSymbol {
                 global: (kind == S_GTHREAD32) | (kind == S_GTHREAD32_ST),
                 type_index: common::u32_at(s, 2),
-                offset: records::field::place_at(s, 6),
+                offset: SectionOffset {
+                    offset: common::u32_at(s, 6),
+                    section: common::u16_at(s, 10),
+                },
                 name,
             };
             return Decoded::Record(SymbolData::ThreadStorage(data), next);

@@ -1,9 +1,10 @@
 // A decoded record as words, in places that the caller lends: the number of its class, the bytes consumed, and its fields.
 //
 // `field` has the fields that are no plain numbers; the others have the records, in the rooms and the order of their decoders.
-pub mod code;
-pub mod compiland;
-pub mod data;
+// (A module may not have a crate's name in a program that reaches both.)
+pub mod code_words;
+pub mod compiland_words;
+pub mod data_words;
 pub mod field;
 
 ghost use mathlib.Core.Path.{_≡_};
@@ -21,32 +22,32 @@ fn put_fields(d: SymbolData, out: &mut [u64; 24]) -> u64
 {
     match d {
         SymbolData::ScopeEnd => classes::SCOPE_END,
-        SymbolData::ObjName(x) => compiland::obj_name(x, out),
-        SymbolData::RegisterVariable(x) => data::register_variable(x, out),
-        SymbolData::Constant(x) => data::constant(x, out),
-        SymbolData::UserDefinedType(x) => data::user_defined_type(x, out),
-        SymbolData::MultiRegisterVariable(x) => data::multi_register_variable(x, out),
-        SymbolData::Data(x) => data::data_item(x, out),
-        SymbolData::Public(x) => compiland::public_symbol(x, out),
-        SymbolData::Procedure(x) => code::procedure(x, out),
-        SymbolData::ThreadStorage(x) => data::thread_storage(x, out),
-        SymbolData::CompileFlags(x) => compiland::compile_flags(x, out),
-        SymbolData::UsingNamespace(x) => compiland::using_namespace(x, out),
-        SymbolData::ProcedureReference(x) => compiland::procedure_reference(x, out),
-        SymbolData::DataReference(x) => compiland::data_reference(x, out),
-        SymbolData::AnnotationReference(x) => compiland::annotation_reference(x, out),
-        SymbolData::Trampoline(x) => code::trampoline(x, out),
-        SymbolData::Export(x) => compiland::export_symbol(x, out),
-        SymbolData::Local(x) => data::local(x, out),
-        SymbolData::BuildInfo(x) => compiland::build_info(x, out),
-        SymbolData::InlineSite(x) => code::inline_site(x, out),
+        SymbolData::ObjName(x) => compiland_words::obj_name(x, out),
+        SymbolData::RegisterVariable(x) => data_words::register_variable(x, out),
+        SymbolData::Constant(x) => data_words::constant(x, out),
+        SymbolData::UserDefinedType(x) => data_words::user_defined_type(x, out),
+        SymbolData::MultiRegisterVariable(x) => data_words::multi_register_variable(x, out),
+        SymbolData::Data(x) => data_words::data_item(x, out),
+        SymbolData::Public(x) => compiland_words::public_symbol(x, out),
+        SymbolData::Procedure(x) => code_words::procedure(x, out),
+        SymbolData::ThreadStorage(x) => data_words::thread_storage(x, out),
+        SymbolData::CompileFlags(x) => compiland_words::compile_flags(x, out),
+        SymbolData::UsingNamespace(x) => compiland_words::using_namespace(x, out),
+        SymbolData::ProcedureReference(x) => compiland_words::procedure_reference(x, out),
+        SymbolData::DataReference(x) => compiland_words::data_reference(x, out),
+        SymbolData::AnnotationReference(x) => compiland_words::annotation_reference(x, out),
+        SymbolData::Trampoline(x) => code_words::trampoline(x, out),
+        SymbolData::Export(x) => compiland_words::export_symbol(x, out),
+        SymbolData::Local(x) => data_words::local(x, out),
+        SymbolData::BuildInfo(x) => compiland_words::build_info(x, out),
+        SymbolData::InlineSite(x) => code_words::inline_site(x, out),
         SymbolData::InlineSiteEnd => classes::INLINE_SITE_END,
         SymbolData::ProcedureEnd => classes::PROCEDURE_END,
-        SymbolData::Label(x) => code::label(x, out),
-        SymbolData::Block(x) => code::block(x, out),
-        SymbolData::RegisterRelative(x) => data::register_relative(x, out),
-        SymbolData::Thunk(x) => code::thunk(x, out),
-        SymbolData::SeparatedCode(x) => code::separated_code(x, out),
+        SymbolData::Label(x) => code_words::label(x, out),
+        SymbolData::Block(x) => code_words::block(x, out),
+        SymbolData::RegisterRelative(x) => data_words::register_relative(x, out),
+        SymbolData::Thunk(x) => code_words::thunk(x, out),
+        SymbolData::SeparatedCode(x) => code_words::separated_code(x, out),
     }
 }
 

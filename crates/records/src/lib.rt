@@ -1,7 +1,6 @@
-// The typed records (pdb's src/symbol/mod.rs): what a record decodes to. Module field reads the fields that several of them have.
+// The typed records (pdb's src/symbol/mod.rs): what a record decodes to.
 //
 // Indexes, types and ids are u32, registers and sections u16; names and annotations are parts of the record.
-pub mod field;
 pub mod flags;
 
 ghost use mathlib.Core.Path.{_≡_};

@@ -13,18 +13,18 @@ use Rattle.code.proofs.inline_site.parse_inline_site.Tie as tie
 returns : tie.Need-returns
 returns c = sym (inline-site-row _ _ .short (c .if1 .taken))
 
-sub-t15 : tie.Need-sub-t15
-sub-t15 c =
-    let i = c .before .before .before .before in
+sub-t16 : tie.Need-sub-t16
+sub-t16 c =
+    let i = c .before .before .before .before .before in
     let p = i .before .before in
     invocations-within _ _ 14 (p .before .if1 .left) (sym (ap invocationsOf (i .invocations .given .1)) ∙ p .parse-invocations .ensures)
 
 returns-2 : tie.Need-returns-2
 unfolding inline-site-row rest
 returns-2 c =
-    let i = c .before .before .before .before in
+    let i = c .before .before .before .before .before in
     let p = i .before .before in
-    rw (c .u32-at2 .ensures, c .before .u32-at .ensures, c .before .before .index-at .ensures)
+    rw (c .u32-at3 .ensures, c .before .u32-at2 .ensures, c .before .before .index-of .ensures, c .before .before .before .u32-at .ensures)
     (both-value (inline-site-row _ _) (invocations _) rest _ refl (p .before .if1 .left) (sym (ap invocationsOf (i .invocations .given .1)) ∙ p .parse-invocations .ensures) refl)
 
 returns-3 : tie.Need-returns-3
@@ -43,7 +43,8 @@ parse-inline-site-spec =
     (λ c κs. search needs)
     (λ c κs. search needs)
     (λ c κs. search needs)
-    sub-t15
+    (λ c κs. search needs)
+    sub-t16
     returns-2
     (λ c. search needs)
     returns-3)

@@ -13,8 +13,8 @@ returns c = sym (label-row _ _ .short (c .if1 .taken))
 returns-2 : tie.Need-returns-2
 unfolding label-row
 returns-2 c =
-    rw (c .from-bits .ensures, c .before .u8-at .ensures, c .before .before .place-at .ensures)
-    (named-value (label-row _ _) _ _ refl (c .before .before .before .before .before .before .before .if1 .left) (c .before .before .before .before .before .before .parse-symbol-name .ensures) (c .before .before .before .before .name .given .1))
+    rw (c .from-bits .ensures, c .before .u8-at .ensures, c .before .before .u16-at .ensures, c .before .before .before .u32-at .ensures)
+    (named-value (label-row _ _) _ _ refl (c .before .before .before .before .before .before .before .before .if1 .left) (c .before .before .before .before .before .before .before .parse-symbol-name .ensures) (c .before .before .before .before .before .name .given .1))
 
 returns-3 : tie.Need-returns-3
 unfolding label-row
@@ -28,6 +28,7 @@ parse-label-spec =
     returns
     (λ c κs. search needs)
     (λ c. search needs)
+    (λ c κs. search needs)
     (λ c κs. search needs)
     (λ c κs. search needs)
     (λ c κs. search needs)

@@ -17,11 +17,11 @@ returns c = sym (thunk-row _ _ .short (c .if1 .taken))
 returns-2 : tie.Need-returns-2
 unfolding thunk-row
 returns-2 c =
-    let v = c .before .before .before .before .before .before in
+    let v = c .before .before .before .before .before .before .before .before .before in
     let k = v .before .before in
     let n = k .before .before .before in
     let p = n .before .before in
-    rw (c .u16-at .ensures, c .before .place-at .ensures, c .before .before .index-at2 .ensures, c .before .before .before .u32-at .ensures, c .before .before .before .before .index-at .ensures)
+    rw (c .u16-at2 .ensures, c .before .u16-at .ensures, c .before .before .u32-at4 .ensures, c .before .before .before .index-of2 .ensures, c .before .before .before .before .u32-at3 .ensures, c .before .before .before .before .before .u32-at2 .ensures, c .before .before .before .before .before .before .index-of .ensures, c .before .before .before .before .before .before .before .u32-at .ensures)
     (both-value (thunk-row _ _) (symbolName _) (thunkKind _) _ refl (p .before .if1 .left) (sym (ap partOf (n .name .given .1)) ∙ p .parse-symbol-name .ensures) (rw (k .before .u8-at .ensures) at (sym (ap thunkKindOf (v .variant .given .1)) ∙ k .parse-thunk-kind .ensures)))
 
 returns-3 : tie.Need-returns-3
@@ -48,6 +48,9 @@ parse-thunk-spec =
     (λ c κs. search needs)
     (λ c κs. search needs)
     (λ c. search needs)
+    (λ c κs. search needs)
+    (λ c κs. search needs)
+    (λ c κs. search needs)
     (λ c κs. search needs)
     (λ c κs. search needs)
     (λ c κs. search needs)
