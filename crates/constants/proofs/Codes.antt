@@ -5,11 +5,11 @@ use mathlib.Core.Path.{_≡_, refl, ap, _∙_, sym}
 use mathlib.Core.Bool.{Bool, true, false, cond, _||_}
 use mathlib.Core.List.{List, [], _∷_, map}
 use native.Mathlib.Omega.{arith}
-use native.Mathlib.Nat.{zero-add, zero-div, zero-mod}
+use native.Mathlib.Nat.{zero-add}
 use borrow.Author.Tests.{ltb-true, ltb-false, leb-false}
 use lib.Dec.{ltb, leb, eqb}
 use lib.ListN.{getD, replicate, List·getD-map}
-use Rattle.constants.specs.Kind.{Entry, kind, kinds, number, class, role, find, classOf, classNumber, roleOf}
+use Rattle.constants.specs.Kind.{Entry, kind, kinds, kindNumber, class, role, find, classOf, classNumber, roleOf}
 use Rattle.constants.specs.Table.{code, codeOf, Row}
 use Rattle.constants.specs.Listed.{among}
 use Rattle.constants.specs.declared.Class.{Class}
@@ -33,36 +33,36 @@ unequal : (b c : Bool) (x y : Entry) → b || c ≡ false → (cond b x y ≡ y)
 unequal false c x y h = (refl, h)
 unequal true c x y h = let z : _≡_ {A = ℕ} 0 1 = cc in absurd (omega arith)
 
-unlisted : (k : ℕ) (es : List Entry) → among k (map number es) ≡ false → find k es ≡ unread k
+unlisted : (k : ℕ) (es : List Entry) → among k (map kindNumber es) ≡ false → find k es ≡ unread k
 unfolding among find
 unlisted k [] h = refl
 unlisted k (e ∷ es) h =
-    let u = unequal (eqb k (number e)) (among k (map number es)) e (find k es) h in
+    let u = unequal (eqb k (kindNumber e)) (among k (map kindNumber es)) e (find k es) h in
     u .0 ∙ unlisted k es (u .1)
 
-outside : (p : ℕ → Bool) (k : ℕ) → ((m : ℕ) → p m ≡ false → k ≡ m → ⊥) → Told p (map number kinds) k Unit → 0 ≡ codeOf k
+outside : (p : ℕ → Bool) (k : ℕ) → ((m : ℕ) → p m ≡ false → k ≡ m → ⊥) → Told p (map kindNumber kinds) k Unit → 0 ≡ codeOf k
 unfolding codeOf
-outside p k d t = sym (ap code (unlisted k kinds (absent p (map number kinds) k d t)))
+outside p k d t = sym (ap code (unlisted k kinds (absent p (map kindNumber kinds) k d t)))
 
 pub above : (k : ℕ) → 0x1160 ≤ k → 0 ≡ codeOf k
 unfolding kinds
 above k h = outside (leb 0x1160) k (λ m l e. omega (arith, leb-false 0x1160 m l)) tt
 
 -- the last arm of the `match` for the kinds below 0x1000
-pub below : (k : ℕ) → k < 0x1000 → Told (λ m. ltb m 0x1000) (map number kinds) k Unit → 0 ≡ codeOf k
+pub below : (k : ℕ) → k < 0x1000 → Told (λ m. ltb m 0x1000) (map kindNumber kinds) k Unit → 0 ≡ codeOf k
 below k h = outside (λ m. ltb m 0x1000) k (λ m l e. omega (arith, ltb-false m 0x1000 l))
 
 -- the arm for the kind at the place i of the list
-codes-listed : map code kinds ≡ map (λ e. codeOf (number e)) kinds
+codes-listed : map code kinds ≡ map (λ e. codeOf (kindNumber e)) kinds
 unfolding codeOf find kinds
 codes-listed = refl
 
-pub listed : (i : ℕ) {k : ℕ} → k ≡ number (getD kinds i (unread 0)) → code (getD kinds i (unread 0)) ≡ codeOf k
+pub listed : (i : ℕ) {k : ℕ} → k ≡ kindNumber (getD kinds i (unread 0)) → code (getD kinds i (unread 0)) ≡ codeOf k
 unfolding codeOf find kinds
 listed i h =
     sym (List·getD-map code kinds i (unread 0))
     ∙ ap (λ (xs : List ℕ). getD xs i 0) codes-listed
-    ∙ List·getD-map (λ e. codeOf (number e)) kinds i (unread 0)
+    ∙ List·getD-map (λ e. codeOf (kindNumber e)) kinds i (unread 0)
     ∙ ap codeOf (sym h)
 
 either : {A : Type 0} (f g : Entry → A) (b : Bool) (x y : Entry) → f x ≡ g x → f y ≡ g y → f (cond b x y) ≡ g (cond b x y)
@@ -73,7 +73,7 @@ either f g false x y p q = q
 pub agree : {A : Type 0} (f g : Entry → A) (k : ℕ) (es : List Entry) → map f es ≡ map g es → f (unread k) ≡ g (unread k) → f (find k es) ≡ g (find k es)
 unfolding find
 agree f g k [] h n = n
-agree f g k (e ∷ es) h n = either f g (eqb k (number e)) e (find k es) (cc) (agree f g k es (cc) n)
+agree f g k (e ∷ es) h n = either f g (eqb k (kindNumber e)) e (find k es) (cc) (agree f g k es (cc) n)
 
 -- the arm for a row: antt computes the eight entries from the list of kinds, and compares them with the bytes of the word
 pub row-in-arm : {i n : ℕ} (word : ℕ) → n ≡ i → tabulate (λ j. word / 2 ^ (j * 8) % 0x100) 0 8 ≡ tabulate codeOf (0x1000 + i * 8) 8 → Row n word
@@ -86,28 +86,23 @@ row-in-arm {i} {n} word h t =
           ∙ ap (λ (m : ℕ). codeOf (0x1000 + m * 8 + j)) (sym h);
     }
 
+-- no row comes to the last arm
 abbrev rows : List ℕ
-rows = 0 ∷ 1 ∷ 2 ∷ 3 ∷ 4 ∷ 5 ∷ 32 ∷ 33 ∷ 34 ∷ 35 ∷ 36 ∷ 37 ∷ 38 ∷ 39 ∷ 40 ∷ 41 ∷ 42 ∷ 43 ∷ []
+rows = tabulate (λ n. n) 0 44
 
--- the entry at i, if no arm gives its row
-left-out : ℕ → ℕ
-left-out i = cond (among (i / 8) rows) 0 (codeOf (0x1000 + i))
+armless : ℕ → ℕ
+armless n = cond (among n rows) 0 1
 
-none-left-out : tabulate left-out 0 352 ≡ replicate 352 0
-unfolding left-out among codeOf find kinds
-none-left-out = refl
+none-armless : tabulate armless 0 44 ≡ replicate 44 0
+unfolding armless among
+none-armless = refl
 
--- the last arm: a row that no arm gives holds no known kind
-pub row-of-none : {n : ℕ} → n < 44 → Told (λ m. true) rows n Unit → Row n 0
-unfolding left-out
-row-of-none {n} h t =
-    record {
-      entry = λ j l.
-          let row : (n * 8 + j) / 8 ≡ n = omega arith in
-          let there : 0x1000 + (n * 8 + j) ≡ 0x1000 + n * 8 + j = omega arith in
-          let nothing : left-out (n * 8 + j) ≡ 0 = zero-below left-out 352 (n * 8 + j) none-left-out (omega arith) in
-          rw (zero-div, zero-mod) (sym (rw (row, untold rows n t, there) at nothing));
-    }
+pub row-has-arm : {n : ℕ} → n < 44 → Told (λ m. true) rows n Unit → ⊥
+unfolding armless
+row-has-arm {n} h t =
+    let has : armless n ≡ 0 = zero-below armless 44 n none-armless h in
+    let not : among n rows ≡ false = untold rows n t in
+    let one : _≡_ {A = ℕ} 1 0 = rw not at has in omega arith
 
 -- and so each kind of the table has its entry in its row
 pub in-table : (k word : ℕ) → 0x1000 ≤ k → Row ((k - 0x1000) / 8) word → word / 2 ^ ((k - 0x1000) % 8 * 8) % 0x100 ≡ codeOf k

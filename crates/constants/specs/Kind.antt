@@ -103,8 +103,8 @@ kinds =
     kind 0x115d InlineSite Opens ∷  -- S_INLINESITE2
     []
 
-abbrev pub number : Entry → ℕ
-number (kind n c r) = n
+abbrev pub kindNumber : Entry → ℕ
+kindNumber (kind n c r) = n
 
 abbrev pub class : Entry → Class
 class (kind n c r) = c
@@ -115,7 +115,7 @@ role (kind n c r) = r
 -- the entry of a kind; a kind that is not listed is not read and has no part in a scope
 unfoldable pub find : ℕ → List Entry → Entry
 find k [] = kind k Unknown Neither
-find k (e ∷ es) = cond (eqb k (number e)) e (find k es)
+find k (e ∷ es) = cond (eqb k (kindNumber e)) e (find k es)
 
 -- what decode reads; `Unknown` is refused by 3 (`UnimplementedSymbolKind`)
 unfoldable pub classOf : ℕ → Class

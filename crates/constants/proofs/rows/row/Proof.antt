@@ -3,7 +3,7 @@
 use mathlib.Core.Path.{refl}
 use Rattle.constants.specs.Kind.{kinds, find}
 use Rattle.constants.specs.Table.{codeOf}
-use Rattle.constants.proofs.Codes.{row-in-arm, row-of-none}
+use Rattle.constants.proofs.Codes.{row-in-arm, row-has-arm}
 use Rattle.constants.proofs.rows.row.Statement.{statement}
 use Rattle.constants.proofs.rows.row.Tie as tie
 
@@ -30,4 +30,30 @@ row-spec =
     (λ c. row-in-arm _ (c .match .keys16) refl)
     (λ c. row-in-arm _ (c .match .keys17) refl)
     (λ c. row-in-arm _ (c .match .keys18) refl)
-    (λ c. row-of-none (c .before .pre) (c .match .rest)))
+    (λ c. row-in-arm _ (c .match .keys19) refl)
+    (λ c. row-in-arm _ (c .match .keys20) refl)
+    (λ c. row-in-arm _ (c .match .keys21) refl)
+    (λ c. row-in-arm _ (c .match .keys22) refl)
+    (λ c. row-in-arm _ (c .match .keys23) refl)
+    (λ c. row-in-arm _ (c .match .keys24) refl)
+    (λ c. row-in-arm _ (c .match .keys25) refl)
+    (λ c. row-in-arm _ (c .match .keys26) refl)
+    (λ c. row-in-arm _ (c .match .keys27) refl)
+    (λ c. row-in-arm _ (c .match .keys28) refl)
+    (λ c. row-in-arm _ (c .match .keys29) refl)
+    (λ c. row-in-arm _ (c .match .keys30) refl)
+    (λ c. row-in-arm _ (c .match .keys31) refl)
+    (λ c. row-in-arm _ (c .match .keys32) refl)
+    (λ c. row-in-arm _ (c .match .keys33) refl)
+    (λ c. row-in-arm _ (c .match .keys34) refl)
+    (λ c. row-in-arm _ (c .match .keys35) refl)
+    (λ c. row-in-arm _ (c .match .keys36) refl)
+    (λ c. row-in-arm _ (c .match .keys37) refl)
+    (λ c. row-in-arm _ (c .match .keys38) refl)
+    (λ c. row-in-arm _ (c .match .keys39) refl)
+    (λ c. row-in-arm _ (c .match .keys40) refl)
+    (λ c. row-in-arm _ (c .match .keys41) refl)
+    (λ c. row-in-arm _ (c .match .keys42) refl)
+    (λ c. row-in-arm _ (c .match .keys43) refl)
+    (λ c. row-in-arm _ (c .match .keys44) refl)
+    (λ c. absurd (row-has-arm (c .before .pre) (c .match .rest))))
