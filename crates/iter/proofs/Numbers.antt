@@ -12,7 +12,7 @@ use Rattle.common.specs.Reader.{refusal}
 use Rattle.common.specs.declared.Refusal.{Refusal}
 use Rattle.constants.specs.Kind.{isFiller}
 use Rattle.iter.specs.Step.{frameAt, plain, onKind, onFrame, scanFrom, within, scanOf, stepOf}
-use Rattle.iter.specs.Reading.{Reading, readOf}
+use Rattle.iter.specs.Reading.{Ending, ends, refuses, Reading, readOf}
 use Rattle.iter.specs.declared.Frame.{Frame}
 use Rattle.iter.specs.declared.Frame.the-variants as F
 use Rattle.iter.specs.declared.Next.{Next}
@@ -71,6 +71,12 @@ pub step-number : (s : List ℕ) (at : ℕ) (e : Refusal) → stepOf s at ≡ Re
 unfolding stepOf
 step-number s at e q = scan-number s at e q
 
--- the same of the step that ends a reading
-pub last-number : (s : List ℕ) (at : ℕ) (e : Refusal) → readOf s at .last .step ≡ Refused e → 0 < e .number
-last-number s at e q = subst Above q (read-ind s (λ p (r : Reading). Above (r .last .step)) (λ p x h. above s p) (λ p x h. above s p) (λ p kind index start len next h ih. ih) at)
+-- the same of the refusal that ends a reading
+abbrev EndsAbove : Ending → Type 0
+EndsAbove ends = Unit
+EndsAbove (refuses e) = 0 < e .number
+
+pub last-number : (s : List ℕ) (at : ℕ) (e : Refusal) → readOf s at .last .ending ≡ refuses e → 0 < e .number
+last-number s at e q =
+    subst EndsAbove q
+    (read-ind s (λ p (r : Reading). EndsAbove (r .last .ending)) (λ p x h. tt) (λ p x h. scan-number s p x h) (λ p kind index start len next h ih. ih) at)
