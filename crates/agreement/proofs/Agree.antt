@@ -1,10 +1,9 @@
 -- Jumping and walking agree wherever the check passed.
 -- Assumes nothing.
-use mathlib.Core.Path.{_≡_, refl, sym, _∙_}
+use mathlib.Core.Path.{_≡_, sym, _∙_}
 use mathlib.Core.List.{List, [], _∷_}
-use Prim.Native.Nat.{ℕ, zero, suc, _+_, _-_, _≤_, _<_}
+use Prim.Native.Nat.{ℕ, _+_, _≤_, _<_}
 use native.Mathlib.Omega.{arith}
-use native.Mathlib.Nat.{not-suc-le-zero}
 use native.Mathlib.Decide.{decLt}
 use lib.ListN.{length}
 use Rattle.common.specs.Reader.{refusal}
@@ -16,11 +15,10 @@ use Rattle.chain.specs.Finding.{Walk, seen}
 use Rattle.chain.specs.declared.finding.Outcome.the-variants.{Answer, Refused}
 use Rattle.walk.proofs.Walks.{walkAt}
 use Rattle.jump.specs.Jump.{jumpFrom}
-use Rattle.check_nesting.specs.Check.{Open}
-use Rattle.check_nesting.proofs.Checks.{indexes, length-each}
-use Rattle.agreement.proofs.Nest.{openAt, Nest, done, passes, opens, closes}
+use Rattle.check_nesting.specs.declared.stack.Open.{Open}
+use Rattle.agreement.proofs.Nest.{openAt, NestsAt, First, done, passes, opens, closes, nests-ind}
 use Rattle.agreement.proofs.Turns.{same-out, same-stack, same-count, walk-end, jump-end, walk-same, walk-past, jump-same, jump-past, walk-plain, jump-plain, walk-open, jump-push, jump-over}
-use Rattle.agreement.proofs.Skip.{through-one, Skip, skip}
+use Rattle.agreement.proofs.Skip.{indexes, length-indexes, through-one, Skip, skip}
 
 -- where an index k lies, seen from i
 pub data Order (k i : ℕ) : Type 0 where
@@ -84,28 +82,30 @@ module _ (s : List ℕ) (i : ℕ) where
       go (more a) =
           none (same-out (jump-past s i p (indexes st) index from len next h a)) (same-out (walk-past s i p (indexes st) index from len next h a))
 
-  pub agree : (m p : ℕ) (st : List Open) → length s - p < m → Reach i st → Nest s p st → Goal p st
-  agree zero p st f c d = absurd (not-suc-le-zero f)
-  agree (suc m) p st f c (done {q = q} h) = none (same-out (jump-end s i p [] q h)) (same-out (walk-end s i p [] q h))
-  agree (suc m) p st f c (passes {index = index} {from = from} {len = len} {next = next} h r d) =
+  abbrev Agrees : ℕ → List Open → Type 0
+  Agrees p st = Reach i st → Goal p st
+
+  agree-on : (p : ℕ) (st : List Open) → First s p st → ((q : ℕ) (gs : List Open) → p < q → q ≤ length s → NestsAt s q gs → Agrees q gs) → Agrees p st
+  agree-on p st (done {q = q} h) on c = none (same-out (jump-end s i p [] q h)) (same-out (walk-end s i p [] q h))
+  agree-on p st (passes {index = index} {from = from} {len = len} {next = next} h r d) on c =
       meets p st h
       (λ a.
       let y = step-fits s p index from len next h in
       along-one _ (jump-plain s i p (indexes st) index from len next h a r) (walk-plain s i p (indexes st) index from len next h a r)
-      (agree m next st (omega arith) c d))
-  agree (suc m) p st f c (opens {index = index} {from = from} {len = len} {next = next} {end = end} h r g z t o d) =
+      (on next st (omega arith) (omega arith) d c))
+  agree-on p st (opens {index = index} {from = from} {len = len} {next = next} {end = end} h r g z t o d) on c =
       meets p st h
       (λ a.
       let y = step-fits s p index from len next h in
-      let x : length (indexes st) ≡ length st = length-each (λ o. o .index) st in
+      let x : length (indexes st) ≡ length st = length-indexes st in
       let room : length (indexes st) < 64 = omega arith in
-      let w : Skip s i next (openAt index end ∷ st) end st = skip s i (openAt index end) st [] d refl in
+      let w : Skip s i next (openAt index end ∷ st) end st = skip s i (openAt index end) st next d in
       let ny = step-fits s end end (w .start) (w .long) (w .after) (w .lands) in
       let ne : next ≤ end = w .from in
       below end i
       (λ (q : i ≤ end).
       along-one _ (jump-push s i p (indexes st) index from len next h a r g ne q room) (walk-open s i p (indexes st) index from len next h a r room)
-      (agree m next (openAt index end ∷ st) (omega arith) q d))
+      (on next (openAt index end ∷ st) (omega arith) (omega arith) d q))
       (λ (q : end < i).
       let b = jump-over s i p (indexes st) index from len next h a r g ne q (w .lands) (w .closer) in
       let k = through-one _ (walk-open s i p (indexes st) index from len next h a r room) in
@@ -114,5 +114,8 @@ module _ (s : List ℕ) (i : ℕ) where
       let lm = l .more in
       along 2 (same-out b) (same-stack b) (same-count b ∙ (omega arith))
       (k .outs ∙ l .outs) (k .stacks ∙ l .stacks) (omega arith)
-      (agree m (w .after) st (omega arith) c (w .rest))))
-  agree (suc m) p _ f c (closes {o = o} {st = st} h r t d) = meets p (o ∷ st) h (λ a. absurd (omega arith))
+      (on (w .after) st (omega arith) (omega arith) (w .rest) c)))
+  agree-on p _ (closes {o = o} {st = st} h r t d) on c = meets p (o ∷ st) h (λ a. absurd (omega arith))
+
+  pub agree : (p : ℕ) → NestsAt s p [] → Goal p []
+  agree p d = nests-ind s Agrees agree-on p [] d tt

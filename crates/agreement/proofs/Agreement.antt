@@ -9,7 +9,7 @@ use lib.ListN.{length, length-reverse}
 use Rattle.common.specs.Reader.{refusal}
 use Rattle.constants.specs.declared.Role.the-variants.{Neither, Opens, Closes}
 use Rattle.iter.specs.Step.{scanOf}
-use Rattle.iter.specs.Reading.{Rec, Reading, recAt, readOf}
+use Rattle.iter.specs.Reading.{Rec, Reading, recAt, readOf, Some, Begins}
 use Rattle.iter.specs.declared.Next.the-variants as N
 use Rattle.iter.proofs.Reading.{step-fits, read-by}
 use Rattle.iter.proofs.Records.{Rising, rising}
@@ -23,10 +23,11 @@ use Rattle.walk.proofs.Walks.{walkAt}
 use Rattle.jump.specs.Jump.{jumpFrom, jumpOf}
 use Rattle.climb.specs.Climb.{reachedBy, climbOf}
 use Rattle.climb.specs.declared.opener.Opener.the-variants.{Parent}
-use Rattle.check_nesting.specs.Check.{Open}
-use Rattle.check_nesting.proofs.Checks.{indexes, length-each}
-use Rattle.agreement.specs.Agreement.{Some, Begins, OpenerBegins, BothAnswer, ClimbsThem, Agreement, Condition3, answersOf}
-use Rattle.agreement.proofs.Nest.{bytesAt, openAt, Nest, done, passes, opens, closes, check-nests}
+use Rattle.check_nesting.specs.declared.stack.Open.{Open}
+use Rattle.check_nesting.proofs.Nesting.{good-nests}
+use Rattle.agreement.specs.Agreement.{OpenerBegins, BothAnswer, ClimbsThem, Agreement, Condition3, answersOf}
+use Rattle.agreement.proofs.Nest.{bytesAt, openAt, NestsAt, First, done, passes, opens, closes, nests-ind}
+use Rattle.agreement.proofs.Skip.{indexes, length-indexes}
 use Rattle.agreement.proofs.Turns.{same-out, same-stack, walk-end, walk-same, walk-past, walk-plain, walk-open, walk-close}
 use Rattle.agreement.proofs.Agree.{Order, less, same, more, order, Agree, both, none, agree}
 use Rattle.agreement.proofs.Parents.{opener-found, Up, top, over, up-later, up-out, climb-opener, reversed-stack}
@@ -123,30 +124,36 @@ module _ (s : List ℕ) (i : ℕ) where
             ])
             (same-out (walk-past s i p (indexes st) index from len next h l))
 
-  met : (p : ℕ) (st : List Open) → length st ≤ 64 → Up s p st → Nest s p st → Met p st
-  met p st m u (done {q = q} h) = lost (from-end s Is p q h) (same-out (walk-end s i p [] q h))
-  met p st m u (passes {index = index} {from = from} {len = len} {next = next} h r d) =
+  abbrev Meets : ℕ → List Open → Type 0
+  Meets p st = length st ≤ 64 → Up s p st → Met p st
+
+  met-on : (p : ℕ) (st : List Open) → First s p st → ((q : ℕ) (gs : List Open) → p < q → q ≤ length s → NestsAt s q gs → Meets q gs) → Meets p st
+  met-on p st (done {q = q} h) on m u = lost (from-end s Is p q h) (same-out (walk-end s i p [] q h))
+  met-on p st (passes {index = index} {from = from} {len = len} {next = next} h r d) on m u =
       let y = step-fits s p index from len next h in
       meets p index from len next st h
       (λ a. past p index from len next st h st a (walk-plain s i p (indexes st) index from len next h a r)
-      (met next st m (up-later next (omega arith) u) d))
+      (on next st (omega arith) (omega arith) d m (up-later next (omega arith) u)))
       (λ e o. absurd (let z : Neither ≡ Opens = sym r ∙ o in let w : _≡_ {A = ℕ} 0 1 = cc in omega arith))
-  met p st m u (opens {index = index} {from = from} {len = len} {next = next} {parent = parent} {end = end} h r g z t o d) =
+  met-on p st (opens {index = index} {from = from} {len = len} {next = next} {parent = parent} {end = end} h r g z t o d) on m u =
       let y = step-fits s p index from len next h in
-      let x : length (indexes st) ≡ length st = length-each (λ o. o .index) st in
+      let x : length (indexes st) ≡ length st = length-indexes st in
       let room : length (indexes st) < 64 = omega arith in
       let opener = opener-found s p index from len next parent end h r g ∙ ap Parent t in
       let below : Up s index st = up-later index (omega arith) u in
       meets p index from len next st h
       (λ a. past p index from len next st h (openAt index end ∷ st) a (walk-open s i p (indexes st) index from len next h a r room)
-      (met next (openAt index end ∷ st) o (over (omega arith) z opener below) d))
+      (on next (openAt index end ∷ st) (omega arith) (omega arith) d o (over (omega arith) z opener below)))
       (λ e q. subst (λ (k : ℕ). climbOf s k ≡ reachedBy (reverse (indexes st))) e (climb-opener s index st opener m below))
-  met p _ m u (closes {index = index} {from = from} {len = len} {next = next} {o = o} {st = st} h r t d) =
+  met-on p _ (closes {index = index} {from = from} {len = len} {next = next} {o = o} {st = st} h r t d) on m u =
       let y = step-fits s p index from len next h in
       meets p index from len next (o ∷ st) h
       (λ a. past p index from len next (o ∷ st) h st a (walk-close s i p (o .index) (indexes st) index from len next h a r)
-      (met next st (omega arith) (up-out next (omega arith) u) d))
+      (on next st (omega arith) (omega arith) d (omega arith) (up-out next (omega arith) u)))
       (λ e q. absurd (let z : Closes ≡ Opens = sym r ∙ q in let w : _≡_ {A = ℕ} 0 1 = cc in omega arith))
+
+  met : (p : ℕ) → NestsAt s p [] → Met p []
+  met p d = nests-ind s Meets met-on p [] d (omega arith) top
 
 -- what a walk's end makes of its finding
 finds : (w : Walk) → w .out ≡ Answer → findingOf w ≡ foundBy (chainOf (w .stack)) (length (w .visited))
@@ -193,5 +200,5 @@ module _ (s : List ℕ) (start i : ℕ) where
 
 pub condition3 : (s : List ℕ) (start i : ℕ) → Condition3 s start i (answersOf s start i)
 condition3 s start i n e =
-    let d : Nest s start [] = check-nests s n start e in
-    join s start i (agree s i (suc (length s - start)) start [] (omega arith) tt d) (met s i start [] (omega arith) top d)
+    let d : NestsAt s start [] = good-nests s start n e in
+    join s start i (agree s i start d) (met s i start d)

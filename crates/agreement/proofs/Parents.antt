@@ -18,14 +18,15 @@ use Rattle.constants.specs.Kind.{nestingRole}
 use Rattle.constants.specs.Raw.{nestingRoleOf}
 use Rattle.links.specs.Links.{linksOf}
 use Rattle.links.specs.declared.Links.the-variants.{Read}
-use Rattle.check_nesting.specs.Check.{Open, innerIndex}
-use Rattle.check_nesting.proofs.Checks.{indexes}
+use Rattle.check_nesting.specs.declared.stack.Open.{Open}
+use Rattle.check_nesting.specs.Act.{innerIndex}
 use Rattle.climb.specs.declared.opener.Opener.the-variants.{Parent}
 use Rattle.climb.specs.Opener.{openerOn, openerOf}
 use Rattle.climb.specs.Climb.{reachedBy, climbBy, climbOn, climbOf}
 use Rattle.climb.proofs.Climbs.{climb-top, climb-below}
 use Rattle.agreement.specs.Agreement.{reversed}
 use Rattle.agreement.proofs.Nest.{bytesAt}
+use Rattle.agreement.proofs.Skip.{indexes}
 
 -- an opener that a step yields is found at its own index, with its parent field
 pub opener-found : (s : List ℕ) (p index from len next parent end : ℕ) {kind : ℕ} → scanOf s p .step ≡ N.Record kind index from len next →

@@ -1,6 +1,6 @@
 -- From inside a scope whose end field is e, reading comes to a closer at e; and the walk to a position past e comes there too.
 -- Assumes nothing.
-use mathlib.Core.Path.{_≡_, sym, _∙_, ap}
+use mathlib.Core.Path.{_≡_, refl, sym, _∙_, ap}
 use mathlib.Core.List.{List, [], _∷_, _++_}
 use Prim.Native.Nat.{ℕ, suc, _≤_, _<_}
 use native.Mathlib.Omega.{arith}
@@ -15,10 +15,18 @@ use Rattle.iter.proofs.Records.{again}
 use Rattle.constants.specs.Raw.{nestingRoleOf}
 use Rattle.chain.specs.Finding.{Walk, seen}
 use Rattle.walk.proofs.Walks.{walkAt}
-use Rattle.check_nesting.specs.Check.{Open}
-use Rattle.check_nesting.proofs.Checks.{indexes, length-each}
-use Rattle.agreement.proofs.Nest.{bytesAt, openAt, Nest, done, passes, opens, closes}
+use Rattle.check_nesting.specs.declared.stack.Open.{Open}
+use Rattle.agreement.proofs.Nest.{bytesAt, openAt, NestsAt, First, done, passes, opens, closes, nests-ind}
 use Rattle.agreement.proofs.Turns.{same-out, same-stack, same-count, walk-plain, walk-open, walk-close}
+
+-- the indexes of a stack
+abbrev pub indexes : List Open → List ℕ
+indexes [] = []
+indexes (o ∷ st) = o .index ∷ indexes st
+
+pub length-indexes : (st : List Open) → length (indexes st) ≡ length st
+length-indexes [] = refl
+length-indexes (o ∷ st) = ap suc (length-indexes st)
 
 -- the walk w ends as v does, and visits more records
 pub record Through (w v : Walk) : Type 0 where
@@ -45,7 +53,7 @@ pub record Skip (s : List ℕ) (i p : ℕ) (gs : List Open) (e : ℕ) (fs : List
   pub from : p ≤ e
   pub lands : scanOf s e .step ≡ N.Record kind e start long after
   pub closer : nestingRoleOf (bytesAt s start long) ≡ Closes
-  pub rest : Nest s after fs
+  pub rest : NestsAt s after fs
   pub walked : e < i → Through (walkAt s i p (indexes gs)) (walkAt s i after (indexes fs))
 
 module _ (s : List ℕ) (i : ℕ) (o : Open) (fs : List Open) where
@@ -68,16 +76,21 @@ module _ (s : List ℕ) (i : ℕ) (o : Open) (fs : List Open) where
         walked = λ l. through-more (through-one _ (w (omega arith))) (r .walked l);
       }
 
-  pub skip : (pre : List Open) {p : ℕ} {gs : List Open} → Nest s p gs → gs ≡ pre ++ o ∷ fs → Skip s i p gs (o .end) fs
-  skip [] (done h) q = let z : _≡_ {A = ℕ} 0 1 = cc in absurd (omega arith)
-  skip (g ∷ pre) (done h) q = let z : _≡_ {A = ℕ} 0 1 = cc in absurd (omega arith)
-  skip pre {p} {gs} (passes {index = index} {from = from} {len = len} {next = next} h r d) q =
-      more-skip gs gs h (λ l. walk-plain s i p (indexes gs) index from len next h l r) (skip pre d q)
-  skip pre {p} {gs} (opens {index = index} {from = from} {len = len} {next = next} {end = end} h r g z u m d) q =
+  abbrev Skips : ℕ → List Open → Type 0
+  Skips p gs = (pre : List Open) → gs ≡ pre ++ o ∷ fs → Skip s i p gs (o .end) fs
+
+  skip-on : (p : ℕ) (gs : List Open) → First s p gs → ((q : ℕ) (hs : List Open) → p < q → q ≤ length s → NestsAt s q hs → Skips q hs) → Skips p gs
+  skip-on p gs (done h) on [] q = let z : _≡_ {A = ℕ} 0 1 = cc in absurd (omega arith)
+  skip-on p gs (done h) on (g ∷ pre) q = let z : _≡_ {A = ℕ} 0 1 = cc in absurd (omega arith)
+  skip-on p gs (passes {index = index} {from = from} {len = len} {next = next} h r d) on pre q =
+      let y = step-fits s p index from len next h in
+      more-skip gs gs h (λ l. walk-plain s i p (indexes gs) index from len next h l r) (on next gs (omega arith) (omega arith) d pre q)
+  skip-on p gs (opens {index = index} {from = from} {len = len} {next = next} {end = end} h r g z u m d) on pre q =
+      let y = step-fits s p index from len next h in
       more-skip gs (openAt index end ∷ gs) h
-      (λ l. walk-open s i p (indexes gs) index from len next h l r (let f : length (indexes gs) ≡ length gs = length-each (λ o. o .index) gs in omega arith))
-      (skip (openAt index end ∷ pre) d (ap (λ (l : List Open). openAt index end ∷ l) q))
-  skip [] {p} (closes {kind = kind} {index = index} {from = from} {len = len} {next = next} {o = x} {st = gs} h r u d) q =
+      (λ l. walk-open s i p (indexes gs) index from len next h l r (let f : length (indexes gs) ≡ length gs = length-indexes gs in omega arith))
+      (on next (openAt index end ∷ gs) (omega arith) (omega arith) d (openAt index end ∷ pre) (ap (λ (l : List Open). openAt index end ∷ l) q))
+  skip-on p _ (closes {kind = kind} {index = index} {from = from} {len = len} {next = next} {o = x} {st = gs} h r u d) on [] q =
       let a : x ≡ o = cc in
       let c : gs ≡ fs = cc in
       let v : index ≡ o .end = sym u ∙ ap (λ (y : Open). y .end) a in
@@ -96,5 +109,9 @@ module _ (s : List ℕ) (i : ℕ) (o : Open) (fs : List Open) where
             (walk-close s i p (x .index) (indexes gs) index from len next h (omega arith) r
             ∙ ap (λ (st : List Open). seen (recAt s (scanOf s p) index from len) (walkAt s i next (indexes st))) c);
       }
-  skip (g ∷ pre) {p} (closes {index = index} {from = from} {len = len} {next = next} {o = x} {st = gs} h r u d) q =
-      more-skip _ gs h (λ l. walk-close s i p (x .index) (indexes gs) index from len next h l r) (skip pre d (cc))
+  skip-on p _ (closes {index = index} {from = from} {len = len} {next = next} {o = x} {st = gs} h r u d) on (g ∷ pre) q =
+      let y = step-fits s p index from len next h in
+      more-skip _ gs h (λ l. walk-close s i p (x .index) (indexes gs) index from len next h l r) (on next gs (omega arith) (omega arith) d pre (cc))
+
+  pub skip : (p : ℕ) → NestsAt s p (o ∷ fs) → Skip s i p (o ∷ fs) (o .end) fs
+  skip p d = nests-ind s Skips skip-on p (o ∷ fs) d [] refl

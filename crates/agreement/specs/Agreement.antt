@@ -1,12 +1,11 @@
 -- Condition 3 (document 01), one claim over all streams, starts and positions, about what the calls return.
 use Prim.Native.Nat.{ℕ, _-_, _≤_}
 use mathlib.Core.Path.{_≡_}
-use mathlib.Core.Logic.{_⊎_}
-use mathlib.Core.List.{List, [], _∷_, _++_, reverse}
+use mathlib.Core.List.{List, [], _++_, reverse}
 use lib.ListN.{take, replicate}
 use Rattle.common.specs.Reader.{refusal}
 use Rattle.constants.specs.declared.Role.the-variants.{Opens}
-use Rattle.iter.specs.Reading.{Rec, readOf}
+use Rattle.iter.specs.Reading.{readOf, Some, Begins}
 use Rattle.chain.specs.Chain.{chainOf}
 use Rattle.chain.specs.declared.Chain.{Chain}
 use Rattle.constants.specs.Raw.{nestingRoleOf}
@@ -20,15 +19,6 @@ use Rattle.walk.specs.Walk.{walkFrom, walkOf}
 use Rattle.jump.specs.Jump.{jumpOf}
 use Rattle.climb.specs.Climb.{climbOf}
 use Rattle.agreement.specs.declared.Answers.{Answers}
-
--- one of these records has this property
-abbrev pub Some : (Rec → Type 0) → List Rec → Type 0
-Some P [] = ⊥
-Some P (r ∷ rs) = P r ⊎ Some P rs
-
--- A record begins at a position if steps from the start, each made from the next position of the one before, yield that index.
-abbrev pub Begins : List ℕ → ℕ → ℕ → Type 0
-Begins s start i = Some (λ r. r .index ≡ i) (readOf s start .recs)
 
 -- A scope opener is a record of a kind that the check takes as an opener.
 abbrev pub OpenerBegins : List ℕ → ℕ → ℕ → Type 0

@@ -1,16 +1,16 @@
--- Laws of the check: what a turn of the loop does to the check that is left.
+-- Laws of the check: what a turn of the loop does to the verdict that is left and to the counts.
 -- Assumes nothing.
 use mathlib.Core.Path.{_≡_, refl, sym, _∙_, ap, subst}
 use mathlib.Core.List.{List, [], _∷_, tail}
 use mathlib.Core.Bool.{Bool, true, false, cond}
-use Prim.Native.Nat.{ℕ, suc, _+_, _-_, _≤_, _<_}
+use Prim.Native.Nat.{ℕ, _+_, _-_, _≤_, _<_}
 use native.Mathlib.Omega.{arith}
-use lib.ListN.{length, take, drop, set, replicate}
+use lib.ListN.{length, take, drop, set, replicate, length-set, length-replicate}
 use lib.Dec.{ltb}
 use borrow.Author.Tests.{ltb-true}
 use Rattle.common.specs.declared.Refusal.{Refusal}
 use Rattle.iter.specs.Step.{scanOf}
-use Rattle.iter.specs.Reading.{Rec, Reading, recAt, ended, more, onNext, readOf}
+use Rattle.iter.specs.Reading.{Rec, ends, Reading, recAt, more, onNext, readOf}
 use Rattle.iter.specs.declared.Scan.{Scan}
 use Rattle.iter.specs.declared.Next.{Next}
 use Rattle.iter.specs.declared.Next.the-variants as N
@@ -18,46 +18,17 @@ use Rattle.iter.proofs.Reading.{Stepped, step-fits, read-by, Fillers, fillers-o
 use Rattle.iter.proofs.Records.{bytes-length, fillers-to}
 use Rattle.chain.specs.Chain.{chainOf, topOf}
 use Rattle.chain.specs.declared.Chain.{Chain}
-use Rattle.chain.proofs.Laws.{pushed, popped, stack-depth, push-stack, pop-stack, length-tail, top, top-stack, top-none}
+use Rattle.chain.proofs.Laws.{pushed, popped}
+use Rattle.check_nesting.specs.declared.stack.Open.{Open}
 use Rattle.check_nesting.specs.declared.act.Act.{Act}
 use Rattle.check_nesting.specs.declared.act.Act.the-variants as A
-use Rattle.check_nesting.specs.Act.{actOf}
-use Rattle.check_nesting.proofs.Acts.{Room, room}
 use Rattle.check_nesting.specs.declared.Counts.{Counts}
+use Rattle.check_nesting.specs.declared.Checked.{Checked}
 use Rattle.check_nesting.specs.declared.Checked.the-variants as C
-use Rattle.check_nesting.specs.Check.{Open, innerIndex, innerEnd, noCounts, countedOf, openedOf, countRec, onAct, endOf, onLast, checkOn, checkFrom, checkOf}
-
--- one field of each open opener
-module _ (field : Open → ℕ) where
-  abbrev each : List Open → List ℕ
-  each [] = []
-  each (o ∷ st) = field o ∷ each st
-
-  pub length-each : (st : List Open) → length (each st) ≡ length st
-  length-each [] = refl
-  length-each (o ∷ st) = ap suc (length-each st)
-
-  tail-each : (st : List Open) → tail (each st) ≡ each (tail st)
-  tail-each [] = refl
-  tail-each (o ∷ st) = refl
-
-  top-each : (o : Open) (st : List Open) → top (chainOf (each (o ∷ st))) ≡ field o
-  top-each o st = top-stack (each st) (field o)
-
--- the indexes and the end fields of a stack
-abbrev pub indexes : List Open → List ℕ
-indexes = each (λ o. o .index)
-
-abbrev pub ends : List Open → List ℕ
-ends = each (λ o. o .end)
-
-top-index : (st : List Open) → top (chainOf (indexes st)) ≡ innerIndex st
-top-index [] = top-none
-top-index (o ∷ st) = top-each (λ x. x .index) o st
-
-top-end : (st : List Open) → top (chainOf (ends st)) ≡ innerEnd st
-top-end [] = top-none
-top-end (o ∷ st) = top-each (λ x. x .end) o st
+use Rattle.check_nesting.specs.Act.{innerIndex, actOf, stackOf, recOf}
+use Rattle.check_nesting.specs.Check.{Verdict, Passes, Refused, onAct, onEnd, verdictOn, verdictFrom, countsOf, answerBy, checkOf}
+use Rattle.check_nesting.proofs.Acts.{stack-length, stack-inner, stack-push, stack-pop, act-bare, Pushes, Pops, asks}
+use Rattle.check_nesting.proofs.Running.{total, passed, counted, opened, none, total-first, total-last, total-stay, total-pop, total-push, opened-deep}
 
 -- what is known of a scan, in numbers
 pub record Scanned (s : List ℕ) (at : ℕ) (c : Scan) : Type 0 where
@@ -88,39 +59,42 @@ found-bounds s at c index from len next {kind} e n = subst (λ (x : Scan). Found
           size = bytes-length s at index from len next q;
         }
 
--- the check of a reading whose first record is r
-pub check-more : (r : Rec) (rest reading : Reading) (st : List Open) (n : Counts) → reading ≡ more r rest →
-    checkFrom reading st n ≡ onAct r st n (actOf (r .bytes) (r .index) (length st) (innerIndex st) (innerEnd st)) (λ st' n'. checkFrom rest st' n')
-unfolding checkFrom checkOn
-check-more r rest reading st n e = ap (λ (x : Reading). checkFrom x st n) e
+-- the verdict on a reading, by its first record
+verdict-more : (r : Rec) (rest reading : Reading) (st : List Open) → reading ≡ more r rest →
+    verdictFrom reading st ≡ onAct st (actOf r st) (λ st'. verdictFrom rest st')
+unfolding verdictFrom verdictOn
+verdict-more r rest reading st e = ap (λ (x : Reading). verdictFrom x st) e
 
--- The loop's invariant: the indexes and the ends are those of a stack, and the check from the start answers what the check from here does.
+-- The loop's invariant: the verdict and the counts from the start are those from here, with the stack that the two arrays hold.
 pub record Checking (s : List ℕ) (start : ℕ) (opens : Chain) (ends-of : List ℕ) (n : Counts) (at : ℕ) : Type 0 where
-  pub stack : List Open
-  pub is-opens : opens ≡ chainOf (indexes stack)
-  pub is-ends : record { at = ends-of; depth = opens .depth } ≡ chainOf (ends stack)
-  pub most : length stack ≤ 64
-  pub same : checkFrom (readOf s at) stack n ≡ checkOf s start
+  pub most : opens .depth ≤ 64
+  pub places : length (opens .at) ≡ 64
+  pub end-places : length ends-of ≡ 64
+  pub verdict : verdictFrom (readOf s at) (stackOf (opens .at) ends-of (opens .depth)) ≡ verdictFrom (readOf s start) []
+  pub counts : total n (opens .depth) (readOf s at) ≡ countsOf (readOf s start)
+  pub deep : opens .depth ≤ n .deepest
   pub records : n .records + (length s - at) ≤ length s
   pub bytes : n .bytes + n .«filler_bytes» + (length s - at) ≤ length s
   pub fillers : n .fillers ≤ n .«filler_bytes»
   pub openers : n .openers ≤ n .records
 
 pub checking-first : (s : List ℕ) (start : ℕ) (opens : Chain) (ends-of : List ℕ) → opens ≡ chainOf [] → ends-of ≡ replicate 64 0 →
-    Checking s start opens ends-of noCounts start
-unfolding checkOf noCounts chainOf
+    Checking s start opens ends-of none start
+unfolding chainOf stackOf
 checking-first s start opens ends-of eo ee =
-    record {
-      stack = [];
-      is-opens = eo;
-      is-ends = rw (eo, ee);
+    rw (eo, ee)
+    (record {
       most = omega arith;
-      same = refl;
+      places = refl;
+      end-places = refl;
+      verdict = refl;
+      counts = total-first (readOf s start);
+      deep = omega arith;
       records = omega arith;
       bytes = omega arith;
       fillers = omega arith;
       openers = omega arith;
-    }
+    })
 
 -- a turn of the loop: the step c that it makes, and the record that this yields
 pub record Turn (s : List ℕ) (start : ℕ) (opens : Chain) (ends-of : List ℕ) (n : Counts) (at : ℕ) (c : Scan) : Type 0 where
@@ -131,23 +105,18 @@ pub record Yields (s : List ℕ) (start : ℕ) (opens : Chain) (ends-of : List �
   pub turn : Turn s start opens ends-of n at c
   pub yields : c .step ≡ N.Record kind index from len next
 
+-- the answer, by the verdict and the counts
+refusing : (s : List ℕ) (start : ℕ) (x : Refusal) → Refused x ≡ verdictFrom (readOf s start) [] → C.Refused x ≡ checkOf s start
+unfolding checkOf
+refusing s start x e = ap (λ (v : Verdict). answerBy v (countsOf (readOf s start))) e
+
+answering : (s : List ℕ) (start : ℕ) (v : Verdict) (n : Counts) → v ≡ verdictFrom (readOf s start) [] → n ≡ countsOf (readOf s start) → answerBy v n ≡ checkOf s start
+unfolding checkOf
+answering s start v n e k = λ i. answerBy (e i) (k i)
+
 module _ {s : List ℕ} {start : ℕ} {opens : Chain} {ends-of : List ℕ} {n : Counts} {at : ℕ} {c : Scan} (t : Turn s start opens ends-of n at c) where
-  depth : opens .depth ≡ length (t .inv .stack)
-  depth = stack-depth (indexes (t .inv .stack)) (t .inv .is-opens) ∙ length-each (λ o. o .index) (t .inv .stack)
-
-  pub depth-most : opens .depth ≤ 64
-  depth-most = omega (arith, depth, t .inv .most)
-
-  inner : topOf (opens .at) (opens .depth) ≡ innerIndex (t .inv .stack)
-  inner = ap top (t .inv .is-opens) ∙ top-index (t .inv .stack)
-
-  inner-end : topOf ends-of (opens .depth) ≡ innerEnd (t .inv .stack)
-  inner-end = ap top (t .inv .is-ends) ∙ top-end (t .inv .stack)
-
-  same-act : (bytes : List ℕ) (index : ℕ) →
-      actOf bytes index (opens .depth) (topOf (opens .at) (opens .depth)) (topOf ends-of (opens .depth))
-      ≡ actOf bytes index (length (t .inv .stack)) (innerIndex (t .inv .stack)) (innerEnd (t .inv .stack))
-  same-act bytes index = rw (inner, inner-end, depth)
+  abbrev st : List Open
+  st = stackOf (opens .at) ends-of (opens .depth)
 
   pub scanned : Scanned s at c
   scanned = scan-bounds s at c (t .scan)
@@ -156,59 +125,75 @@ module _ {s : List ℕ} {start : ℕ} {opens : Chain} {ends-of : List ℕ} {n : 
   reading : (m : Next) → c .step ≡ m → readOf s at ≡ onNext s c m (λ q. readOf s q)
   reading m e = subst (λ (x : Scan). x .step ≡ m → readOf s at ≡ onNext s x m (λ q. readOf s q)) (sym (t .scan)) (read-by s at m) e
 
-  last : (m : Next) → c .step ≡ m → readOf s at ≡ ended c → onLast c m (t .inv .stack) n ≡ checkOf s start
-  unfolding checkFrom checkOn
-  last m em er = ap (λ (x : Next). onLast c x (t .inv .stack) n) (sym em) ∙ ap (λ (x : Reading). checkFrom x (t .inv .stack) n) (sym er) ∙ t .inv .same
+  left-on : (x : Reading) → readOf s at ≡ x → verdictFrom x st ≡ verdictFrom (readOf s start) []
+  left-on x e = ap (λ (y : Reading). verdictFrom y st) (sym e) ∙ t .inv .verdict
 
   pub at-refused : {x : Refusal} → c .step ≡ N.Refused x → C.Refused x ≡ checkOf s start
-  at-refused {x} e = last (N.Refused x) e (reading (N.Refused x) e)
+  unfolding verdictFrom verdictOn
+  at-refused {x} e = refusing s start x (left-on _ (reading (N.Refused x) e))
 
-  pub at-end : {p : ℕ} → c .step ≡ N.End p → endOf n (c .fillers) (c .«filler_bytes») (opens .depth) (topOf (opens .at) (opens .depth)) ≡ checkOf s start
-  at-end {p} e = rw (inner, depth) (last (N.End p) e (reading (N.End p) e))
+  -- the answer at End is the definition's, where it is the answer for every stack of this depth and innermost index
+  pub at-end : {p : ℕ} (r : Checked) → c .step ≡ N.End p →
+      ((stack : List Open) → length stack ≡ opens .depth → innerIndex stack ≡ topOf (opens .at) (opens .depth) → r ≡ answerBy (onEnd ends stack) (passed n (c .fillers) (c .«filler_bytes»))) →
+      r ≡ checkOf s start
+  unfolding verdictFrom verdictOn
+  at-end {p} r e is =
+      is st (stack-length (opens .at) ends-of (opens .depth)) (stack-inner (opens .at) ends-of (opens .depth))
+      ∙ answering s start _ _ (left-on _ (reading (N.End p) e))
+      (sym (total-last n (opens .depth) (c .fillers) (c .«filler_bytes») ends (t .inv .deep)) ∙ ap (total n (opens .depth)) (sym (reading (N.End p) e)) ∙ t .inv .counts)
 
 module _ {s : List ℕ} {start : ℕ} {opens : Chain} {ends-of : List ℕ} {n : Counts} {at : ℕ} {c : Scan} {kind index from len next : ℕ}
     (y : Yields s start opens ends-of n at c kind index from len next) where
   abbrev stack : List Open
-  stack = y .turn .inv .stack
+  stack = stackOf (opens .at) ends-of (opens .depth)
 
   abbrev r : Rec
   r = recAt s c index from len
 
   -- what is done with the record
   abbrev pub act : Act
-  act = actOf (take len (drop from s)) index (opens .depth) (topOf (opens .at) (opens .depth)) (topOf ends-of (opens .depth))
+  act = actOf (recOf index (take len (drop from s))) stack
 
   pub found : Found s at c index from len next
   found = found-bounds s at c index from len next (y .turn .scan) (y .yields)
 
-  left : (a : Act) → act ≡ a → onAct r stack n a (λ st m. checkFrom (readOf s next) st m) ≡ checkOf s start
+  same-act : act ≡ actOf r stack
+  same-act = act-bare r stack
+
+  left : (a : Act) → act ≡ a → onAct stack a (λ st. verdictFrom (readOf s next) st) ≡ verdictFrom (readOf s start) []
   left a ea =
-      ap (λ (x : Act). onAct r stack n x (λ st m. checkFrom (readOf s next) st m)) (sym ea ∙ same-act (y .turn) (r .bytes) index)
-      ∙ sym (check-more r (readOf s next) (readOf s at) stack n (reading (y .turn) (N.Record kind index from len next) (y .yields)))
-      ∙ y .turn .inv .same
+      ap (λ (x : Act). onAct stack x (λ st. verdictFrom (readOf s next) st)) (sym ea ∙ same-act)
+      ∙ sym (verdict-more r (readOf s next) (readOf s at) stack (reading (y .turn) (N.Record kind index from len next) (y .yields)))
+      ∙ y .turn .inv .verdict
 
-  roomy : (a : Act) → act ≡ a → Room (opens .depth) a
-  roomy a ea = subst (λ (x : Act). Room (opens .depth) x) ea (room (r .bytes) index (opens .depth) _ _)
+  counts-on : total n (opens .depth) (more r (readOf s next)) ≡ countsOf (readOf s start)
+  counts-on = ap (total n (opens .depth)) (sym (reading (y .turn) (N.Record kind index from len next) (y .yields))) ∙ y .turn .inv .counts
 
-  pub push-room : {end : ℕ} → act ≡ A.Push end → opens .depth < 64
-  push-room {end} ea = roomy (A.Push end) ea
+  pushing : {o : Open} → act ≡ A.Push o → Pushes r stack
+  pushing {o} ea = asks r stack (A.Push o) (sym same-act ∙ ea)
 
-  pub pop-room : act ≡ A.Pop → opens .depth ≡ 0 → ⊥
-  pop-room ea = roomy A.Pop ea
+  popping : act ≡ A.Pop → Pops r stack
+  popping ea = asks r stack A.Pop (sym same-act ∙ ea)
 
-  counts : countRec n r ≡ countedOf n (c .fillers) (c .«filler_bytes») len
-  unfolding countRec
-  counts = ap (countedOf n (c .fillers) (c .«filler_bytes»)) (found .size)
+  pub push-room : {o : Open} → act ≡ A.Push o → opens .depth < 64
+  push-room ea = omega (arith, pushing ea .room, stack-length (opens .at) ends-of (opens .depth))
 
-  pub go-stay : act ≡ A.Stay → Checking s start opens ends-of (countedOf n (c .fillers) (c .«filler_bytes») len) next
-  unfolding countedOf
+  pub pop-room : act ≡ A.Pop → 0 < opens .depth
+  pop-room ea = omega (arith, popping ea .some, stack-length (opens .at) ends-of (opens .depth))
+
+  -- the counts with this record
+  abbrev m : Counts
+  m = counted (passed n (c .fillers) (c .«filler_bytes»)) len
+
+  pub go-stay : act ≡ A.Stay → Checking s start opens ends-of m next
   go-stay ea =
       record {
-        stack = stack;
-        is-opens = y .turn .inv .is-opens;
-        is-ends = y .turn .inv .is-ends;
         most = y .turn .inv .most;
-        same = ap (λ (m : Counts). checkFrom (readOf s next) stack m) (sym counts) ∙ left A.Stay ea;
+        places = y .turn .inv .places;
+        end-places = y .turn .inv .end-places;
+        verdict = left A.Stay ea;
+        counts = total-stay n (opens .depth) r (readOf s next) len (found .size) (y .turn .inv .deep) (asks r stack A.Stay (sym same-act ∙ ea)) ∙ counts-on;
+        deep = y .turn .inv .deep;
         records = omega (arith, y .turn .inv .records, found);
         bytes = omega (arith, y .turn .inv .bytes, found);
         fillers = omega (arith, y .turn .inv .fillers, scanned (y .turn));
@@ -216,45 +201,34 @@ module _ {s : List ℕ} {start : ℕ} {opens : Chain} {ends-of : List ℕ} {n : 
       }
 
   -- the stack after the stores that a push and a pop make
-  pub go-pop : act ≡ A.Pop →
-      Checking s start (popped opens) (set ends-of (opens .depth - 1) 0) (countedOf n (c .fillers) (c .«filler_bytes») len) next
-  unfolding countedOf
+  pub go-pop : act ≡ A.Pop → Checking s start (popped opens) (set ends-of (opens .depth - 1) 0) m next
   go-pop ea =
-      let li = length-each (λ o. o .index) stack in
-      let le = length-each (λ o. o .end) stack in
       record {
-        stack = tail stack;
-        is-opens =
-            pop-stack (indexes stack) (y .turn .inv .is-opens) (omega (arith, y .turn .inv .most))
-            ∙ ap chainOf (tail-each (λ o. o .index) stack);
-        is-ends =
-            pop-stack (ends stack) (y .turn .inv .is-ends) (omega (arith, y .turn .inv .most))
-            ∙ ap chainOf (tail-each (λ o. o .end) stack);
-        most = omega (arith, y .turn .inv .most, length-tail stack);
-        same = ap (λ (m : Counts). checkFrom (readOf s next) (tail stack) m) (sym counts) ∙ left A.Pop ea;
+        most = omega (arith, y .turn .inv .most);
+        places = length-set (opens .at) (opens .depth - 1) 0 ∙ y .turn .inv .places;
+        end-places = length-set ends-of (opens .depth - 1) 0 ∙ y .turn .inv .end-places;
+        verdict = ap (verdictFrom (readOf s next)) (stack-pop (opens .at) ends-of (opens .depth) 0 0) ∙ left A.Pop ea;
+        counts = total-pop n (opens .depth) r (readOf s next) len (found .size) (y .turn .inv .deep) (popping ea .role) ∙ counts-on;
+        deep = omega (arith, y .turn .inv .deep);
         records = omega (arith, y .turn .inv .records, found);
         bytes = omega (arith, y .turn .inv .bytes, found);
         fillers = omega (arith, y .turn .inv .fillers, scanned (y .turn));
         openers = omega (arith, y .turn .inv .openers);
       }
 
-  pub go-push : {end : ℕ} → act ≡ A.Push end →
-      Checking s start (pushed opens index) (set ends-of (opens .depth) end) (openedOf (countedOf n (c .fillers) (c .«filler_bytes») len) (opens .depth)) next
-  unfolding countedOf openedOf
-  go-push {end} ea =
+  pub go-push : {o : Open} → act ≡ A.Push o → Checking s start (pushed opens (o .index)) (set ends-of (opens .depth) (o .end)) (opened m (opens .depth)) next
+  go-push {o} ea =
       let h : opens .depth < 64 = push-room ea in
-      let d = depth (y .turn) in
-      let li = length-each (λ o. o .index) stack in
-      let le = length-each (λ o. o .end) stack in
       record {
-        stack = record { index = index; end = end } ∷ stack;
-        is-opens = push-stack (indexes stack) index (y .turn .inv .is-opens) (omega arith);
-        is-ends = push-stack (ends stack) end (y .turn .inv .is-ends) (omega arith);
         most = omega arith;
-        same =
-            ap (λ (m : Counts). checkFrom (readOf s next) (record { index = index; end = end } ∷ stack) m)
-            (ap (λ (x : ℕ). openedOf (countedOf n (c .fillers) (c .«filler_bytes») len) x) (depth (y .turn)) ∙ ap (λ (m : Counts). openedOf m (length stack)) (sym counts))
-            ∙ left (A.Push end) ea;
+        places = length-set (opens .at) (opens .depth) (o .index) ∙ y .turn .inv .places;
+        end-places = length-set ends-of (opens .depth) (o .end) ∙ y .turn .inv .end-places;
+        verdict =
+            ap (verdictFrom (readOf s next))
+            (stack-push (opens .at) ends-of (opens .depth) (o .index) (o .end) (omega (arith, y .turn .inv .places)) (omega (arith, y .turn .inv .end-places)))
+            ∙ left (A.Push o) ea;
+        counts = total-push n (opens .depth) r (readOf s next) len (found .size) (y .turn .inv .deep) (pushing ea .role) ∙ counts-on;
+        deep = opened-deep m (opens .depth);
         records = omega (arith, y .turn .inv .records, found);
         bytes = omega (arith, y .turn .inv .bytes, found);
         fillers = omega (arith, y .turn .inv .fillers, scanned (y .turn));
@@ -262,4 +236,4 @@ module _ {s : List ℕ} {start : ℕ} {opens : Chain} {ends-of : List ℕ} {n : 
       }
 
   pub at-refusing : {x : Refusal} → act ≡ A.Refused x → C.Refused x ≡ checkOf s start
-  at-refusing {x} ea = left (A.Refused x) ea
+  at-refusing {x} ea = refusing s start x (left (A.Refused x) ea)

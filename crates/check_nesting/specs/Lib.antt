@@ -1,2 +1,3 @@
 pub mod Check
 pub mod Act
+pub mod Nesting

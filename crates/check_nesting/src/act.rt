@@ -1,11 +1,14 @@
 // What the nesting check does at one record: the loop of crate check_nesting does as it says.
 ghost use mathlib.Core.Path.{_≡_};
+ghost use mathlib.Core.List.{List};
 ghost use Prim.Native.Nat.{_≤_};
-ghost use Rattle.chain.specs.Chain.{topOf};
+ghost use lib.ListN.{length};
 ghost use Rattle.constants.specs.declared.Role.the-variants.{Opens};
 ghost use Rattle.constants.specs.Raw.{rawKind, nestingRoleOf};
 ghost use Rattle.links.specs.Links.{linksOf};
-ghost use Rattle.check_nesting.specs.Act.{actOf, openOf};
+ghost use Rattle.check_nesting.specs.declared.stack.Open.{Open};
+ghost use Rattle.check_nesting.specs.Act.{actOf, openOf, innerIndex, stackOf, recOf};
+use super::stack::Open;
 use super::stack::innermost;
 use common::Refusal;
 use constants::Role;
@@ -16,8 +19,8 @@ pub enum Act {
     // It goes on: the record opens no scope and closes none.
     Stay,
 
-    // The record opens a scope, and this is its end field.
-    Push(u32),
+    // The record opens a scope, this one.
+    Push(Open),
 
     // The record closes the innermost scope.
     Pop,
@@ -31,23 +34,23 @@ pub enum Act {
 pub fn act_at<'a>(
     kind: u16,
     rec: &[u8],
-    index: usize,
+    index: u32,
     opens: &'a [u32; 64],
     ends: &'a [u32; 64],
     depth: usize,
 ) -> Act
     requires { ⌜ kind ≡ rawKind (now rec) ⌝ }
     requires { ⌜ depth ≤ 64 ⌝ }
-    ensures { λ r. ⌜ r ≡ actOf (now (rec .entry)) index depth (topOf (now (opens .entry)) depth) (topOf (now (ends .entry)) depth) ⌝ }
+    ensures { λ r. ⌜ r ≡ actOf (recOf index (now (rec .entry))) (stackOf (now (opens .entry)) (now (ends .entry)) depth) ⌝ }
 {
     match constants::nesting_role(kind) {
         Role::Opens => return open_at(rec, index, depth, innermost(opens, depth)),
         Role::Closes => {
             if depth == 0 {
-                return Act::Refused(Refusal::at(Refusal::NOTHING_OPEN, index));
+                return Act::Refused(Refusal::at(Refusal::NOTHING_OPEN, index as usize));
             }
-            if innermost(ends, depth) as usize != index {
-                return Act::Refused(Refusal::at(Refusal::WRONG_END, index));
+            if innermost(ends, depth) != index {
+                return Act::Refused(Refusal::at(Refusal::WRONG_END, index as usize));
             }
             return Act::Pop;
         }
@@ -55,23 +58,27 @@ pub fn act_at<'a>(
     }
 }
 
-fn open_at(rec: &[u8], index: usize, depth: usize, inner: u32) -> Act
+// The act at an opener, with any stack of so many openers of which this is the innermost's index.
+fn open_at(rec: &[u8], index: u32, depth: usize, inner: u32) -> Act
     requires { ⌜ nestingRoleOf (now rec) ≡ Opens ⌝ }
-    ensures { λ r. ⌜ r ≡ openOf (linksOf (now (rec .entry))) index depth inner ⌝ }
+    ensures { λ r. ⌜ ((st : List Open) → length st ≡ depth → innerIndex st ≡ inner → r ≡ openOf (linksOf (now (rec .entry))) index st) ⌝ }
 {
     match links::links_of(rec) {
-        Links::Unread => return Act::Refused(Refusal::at(Refusal::UNREADABLE_OPENER, index)),
+        Links::Unread => return Act::Refused(Refusal::at(
+            Refusal::UNREADABLE_OPENER,
+            index as usize,
+        )),
         Links::Read { parent, end } => {
             if index == 0 {
-                return Act::Refused(Refusal::at(Refusal::OPENER_AT_0, index));
+                return Act::Refused(Refusal::at(Refusal::OPENER_AT_0, index as usize));
             }
             if parent != inner {
-                return Act::Refused(Refusal::at(Refusal::WRONG_PARENT, index));
+                return Act::Refused(Refusal::at(Refusal::WRONG_PARENT, index as usize));
             }
             if 64 <= depth {
-                return Act::Refused(Refusal::at(Refusal::TOO_DEEP, index));
+                return Act::Refused(Refusal::at(Refusal::TOO_DEEP, index as usize));
             }
-            return Act::Push(end);
+            return Act::Push(Open { index, end });
         }
     }
 }

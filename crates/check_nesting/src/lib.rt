@@ -3,13 +3,16 @@ pub mod act;
 pub mod stack;
 
 ghost use mathlib.Core.Path.{_≡_};
-ghost use Prim.Native.Nat.{_+_, _<_, _^_};
-ghost use Rattle.check_nesting.specs.Check.{countedOf, openedOf, noCounts, endOf, checkOf, addsUp};
+ghost use mathlib.Core.List.{List};
+ghost use lib.ListN.{length};
+ghost use Rattle.iter.specs.Reading.{ends};
+ghost use Rattle.check_nesting.specs.declared.stack.Open.{Open};
+ghost use Rattle.check_nesting.specs.Act.{innerIndex};
+ghost use Rattle.check_nesting.specs.Check.{larger, onEnd, answerBy, checkOf, addsUp};
 use act::Act;
 use act::act_at;
 use common::Refusal;
 use iter::Next;
-use iter::Scan;
 use stack::Stack;
 
 // What a stream holds, from the start that is checked on.
@@ -43,7 +46,7 @@ pub enum Checked {
 }
 
 fn no_counts() -> Counts
-    ensures { λ r. ⌜ r ≡ noCounts ⌝ }
+    ensures { λ r. ⌜ r ≡ record { records = 0; bytes = 0; fillers = 0; «filler_bytes» = 0; openers = 0; deepest = 0 } ⌝ }
 {
     Counts {
         records: 0,
@@ -55,53 +58,21 @@ fn no_counts() -> Counts
     }
 }
 
-// One record more, of len bytes, which the step c came to.
-fn counted(n: Counts, c: Scan, len: usize) -> Counts
-    requires { ⌜ n .records + 1 < 2 ^ 64 ⌝ }
-    requires { ⌜ n .bytes + (2 + len) < 2 ^ 64 ⌝ }
-    requires { ⌜ n .fillers + c .fillers < 2 ^ 64 ⌝ }
-    requires { ⌜ n .«filler_bytes» + c .«filler_bytes» < 2 ^ 64 ⌝ }
-    ensures { λ r. ⌜ r ≡ countedOf n (c .fillers) (c .«filler_bytes») len ⌝ }
+fn deeper(a: usize, b: usize) -> usize
+    ensures { λ r. ⌜ r ≡ larger a b ⌝ }
 {
-    Counts {
-        records: n.records + 1,
-        bytes: n.bytes + (2 + len),
-        fillers: n.fillers + c.fillers,
-        filler_bytes: n.filler_bytes + c.filler_bytes,
-        openers: n.openers,
-        deepest: n.deepest,
+    if a < b {
+        return b;
     }
+    a
 }
 
-// One opener more, above so many.
-fn opened(n: Counts, depth: usize) -> Counts
-    requires { ⌜ n .openers + 1 < 2 ^ 64 ⌝ }
-    requires { ⌜ depth + 1 < 2 ^ 64 ⌝ }
-    ensures { λ r. ⌜ r ≡ openedOf n depth ⌝ }
-{
-    let mut m = n;
-    m.openers = n.openers + 1;
-    if n.deepest < depth + 1 {
-        m.deepest = depth + 1;
-    }
-    m
-}
-
-// The answer at End, which the step c came to.
-fn at_end(n: Counts, c: Scan, depth: usize, inner: u32) -> Checked
-    requires { ⌜ n .fillers + c .fillers < 2 ^ 64 ⌝ }
-    requires { ⌜ n .«filler_bytes» + c .«filler_bytes» < 2 ^ 64 ⌝ }
-    ensures { λ r. ⌜ r ≡ endOf n (c .fillers) (c .«filler_bytes») depth inner ⌝ }
+// The answer at End, with so many openers open and this the innermost's index.
+fn at_end(n: Counts, depth: usize, inner: u32) -> Checked
+    ensures { λ r. ⌜ ((st : List Open) → length st ≡ depth → innerIndex st ≡ inner → r ≡ answerBy (onEnd ends st) n) ⌝ }
 {
     if depth == 0 {
-        return Checked::Good(Counts {
-            records: n.records,
-            bytes: n.bytes,
-            fillers: n.fillers + c.fillers,
-            filler_bytes: n.filler_bytes + c.filler_bytes,
-            openers: n.openers,
-            deepest: n.deepest,
-        });
+        return Checked::Good(n);
     }
     Checked::Refused(Refusal::at(Refusal::LEFT_OPEN, inner as usize))
 }
@@ -118,8 +89,10 @@ pub fn check(s: &[u8], start: usize) -> Checked
         let c = iter::scan_at(s, at);
         let found = c.step;
         let depth = st.opens.depth;
+        n.fillers = n.fillers + c.fillers;
+        n.filler_bytes = n.filler_bytes + c.filler_bytes;
         match found {
-            Next::End(_) => return at_end(n, c, depth, stack::innermost(&st.opens.at, depth)),
+            Next::End(_) => return at_end(n, depth, stack::innermost(&st.opens.at, depth)),
             Next::Refused(e) => return Checked::Refused(e),
             Next::Record {
                 kind,
@@ -128,14 +101,23 @@ pub fn check(s: &[u8], start: usize) -> Checked
                 len,
                 next,
             } => {
-                n = counted(n, c, len);
+                n.records = n.records + 1;
+                n.bytes = n.bytes + (2 + len);
                 at = next;
-                match act_at(kind, &s[from..next], index, &st.opens.at, &st.ends, depth) {
+                match act_at(
+                    kind,
+                    &s[from..next],
+                    index as u32,
+                    &st.opens.at,
+                    &st.ends,
+                    depth,
+                ) {
                     Act::Stay => {}
-                    Act::Push(end) => {
-                        st.opens.depth = stack::push(&mut st.opens.at, depth, index as u32);
-                        st.ends[depth] = end;
-                        n = opened(n, depth);
+                    Act::Push(o) => {
+                        st.opens.depth = stack::push(&mut st.opens.at, depth, o.index);
+                        st.ends[depth] = o.end;
+                        n.openers = n.openers + 1;
+                        n.deepest = deeper(n.deepest, depth + 1);
                     }
                     Act::Pop => {
                         st.opens.depth = stack::pop(&mut st.opens.at, depth);

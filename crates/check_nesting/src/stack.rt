@@ -6,6 +6,15 @@ ghost use lib.ListN.{set, replicate};
 ghost use Rattle.chain.specs.Chain.{chainOf, topOf};
 use chain::Chain;
 
+// An open opener.
+pub struct Open {
+    // Its index.
+    pub index: u32,
+
+    // Its end field.
+    pub end: u32,
+}
+
 // The open openers, the innermost last.
 pub struct Stack {
     // Their indexes.

@@ -16,7 +16,7 @@ use Rattle.constants.specs.Kind as K
 use Rattle.records.specs.declared.SymbolData.the-variants.{Constant, UserDefinedType}
 use Rattle.data.specs.Variable as L
 use Rattle.symbol.specs.Decode.{layout, byKind, decode}
-use Rattle.iter.specs.Reading.{readFrom, readOf}
+use Rattle.iter.specs.Reading.{readFrom, readOf, Begins}
 use Rattle.iter.specs.Step.{frameAt, scanFrom, scanOf, stepOf}
 use Rattle.iter.specs.declared.Next.the-variants.{End, Refused}
 use Rattle.constants.specs.Raw.{rawKind, nestingRoleOf}
@@ -33,7 +33,7 @@ use Rattle.climb.specs.Opener.{openerOf}
 use Rattle.climb.specs.Climb.{reachedBy, climbOn, climbOf}
 use Rattle.jump.specs.Hop.{hopOf, landOf}
 use Rattle.jump.specs.Jump.{yieldedAt, jumpBody, jumpBy, jumpFrom, jumpOf}
-use Rattle.agreement.specs.Agreement.{Begins, OpenerBegins}
+use Rattle.agreement.specs.Agreement.{OpenerBegins}
 
 -- Stream A
 unfoldable pub streamA : List ℕ
@@ -48,7 +48,7 @@ streamA =
 
 -- P1 A passes: 5 and 1 records, 64 and 4 bytes, 2 openers, depth 2.
 p1 : C.checkOf streamA 4 ≡ Good (record { records = 5; bytes = 64; fillers = 1; «filler_bytes» = 4; openers = 2; deepest = 2 })
-unfolding streamA C.checkOf C.checkFrom C.checkOn actOf C.noCounts C.countedOf C.openedOf C.countRec C.endOf readOf readFrom scanOf scanFrom frameAt B.le rawKind nestingRoleOf K.nestingRole K.roleOf K.find K.kinds linksOf decode byKind layout R._>>=_ R.uint N.run N.cstring N.symbolName S.block F.place K.classOf
+unfolding streamA C.checkOf C.verdictFrom C.verdictOn C.countsOf C.sum C.deepestOf actOf readOf readFrom scanOf scanFrom frameAt B.le rawKind nestingRoleOf K.nestingRole K.roleOf K.find K.kinds linksOf decode byKind layout R._>>=_ R.uint N.run N.cstring N.symbolName S.block F.place K.classOf
 p1 = refl
 
 -- P2 i = 52: chain 4, 28; 3 read both ways. (`chainOf` takes a stack, the innermost first.)

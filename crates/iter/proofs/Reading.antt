@@ -13,7 +13,7 @@ use Rattle.common.specs.Bytes.{le}
 use Rattle.common.specs.Reader.{refusal}
 use Rattle.constants.specs.Kind.{isFiller}
 use Rattle.iter.specs.Step.{frameAt, plain, onKind, onFrame, scanFrom, within, scanOf}
-use Rattle.iter.specs.Reading.{recAt, ended, more, onNext, readFrom, readOf}
+use Rattle.iter.specs.Reading.{recAt, more, onNext, readFrom, readOf}
 use Rattle.iter.specs.declared.Frame.{Frame}
 use Rattle.iter.specs.declared.Frame.the-variants as F
 use Rattle.iter.specs.declared.Scan.{Scan}
@@ -82,38 +82,28 @@ step-fits s at index start len next {kind} e₀ = go (ltb 4294967295 (length s))
 module _ (s : List ℕ) where
   same-step :
       (k j at : ℕ) →
-      ((q : ℕ) → length s ≤ q + k → length s ≤ q + j → readFrom k s q ≡ readFrom j s q) →
-      length s ≤ at + suc k → length s ≤ at + suc j →
+      ((q : ℕ) → q ≤ length s → length s < q + k → length s < q + j → readFrom k s q ≡ readFrom j s q) →
+      length s ≤ at + k → length s ≤ at + j →
       (n : Next) → scanOf s at .step ≡ n →
       onNext s (scanOf s at) n (λ q. readFrom k s q) ≡ onNext s (scanOf s at) n (λ q. readFrom j s q)
   same-step k j at ih hk hj (End p) e = refl
   same-step k j at ih hk hj (Refused r) e = refl
   same-step k j at ih hk hj (Record kind index start len next) e =
       let y = step-fits s at index start len next e in
-      ap (more (recAt s (scanOf s at) index start len)) (ih next (omega arith) (omega arith))
+      ap (more (recAt s (scanOf s at) index start len)) (ih next (omega arith) (omega arith) (omega arith))
 
-  stop-step : (j at : ℕ) → length s ≤ at → (n : Next) → scanOf s at .step ≡ n → ended (scanOf s at) ≡ onNext s (scanOf s at) n (λ q. readFrom j s q)
-  stop-step j at h (End p) e = refl
-  stop-step j at h (Refused r) e = refl
-  stop-step j at h (Record kind index start len next) e =
-      let y = step-fits s at index start len next e in
-      absurd (omega arith)
-
-  same : (k j at : ℕ) → length s ≤ at + k → length s ≤ at + j → readFrom k s at ≡ readFrom j s at
+  same : (k j at : ℕ) → at ≤ length s → length s < at + k → length s < at + j → readFrom k s at ≡ readFrom j s at
   unfolding readFrom
-  same zero zero at hk hj = refl
-  same zero (suc j) at hk hj = stop-step j at (omega arith) (scanOf s at .step) refl
-  same (suc k) zero at hk hj = sym (stop-step k at (omega arith) (scanOf s at .step) refl)
-  same (suc k) (suc j) at hk hj = same-step k j at (same k j) hk hj (scanOf s at .step) refl
-
-  unroll : (at : ℕ) → readOf s at ≡ readFrom (suc (length s)) s at
-  unfolding readOf
-  unroll at = same (length s) (suc (length s)) at (omega arith) (omega arith)
+  same zero j at h hk hj = absurd (omega arith)
+  same (suc k) zero at h hk hj = absurd (omega arith)
+  same (suc k) (suc j) at h hk hj = same-step k j at (same k j) (omega arith) (omega arith) (scanOf s at .step) refl
 
   -- the reading, by what the step says
   pub read-by : (at : ℕ) (n : Next) → scanOf s at .step ≡ n → readOf s at ≡ onNext s (scanOf s at) n (λ q. readOf s q)
   unfolding readFrom readOf
-  read-by at n e = unroll at ∙ ap (λ (m : Next). onNext s (scanOf s at) m (λ q. readFrom (length s) s q)) e
+  read-by at n e =
+      ap (λ (m : Next). onNext s (scanOf s at) m (λ q. readFrom (length s) s q)) e
+      ∙ same-step (length s) (suc (length s)) at (same (length s) (suc (length s))) (omega arith) (omega arith) n e
 
 -- The bytes passed over end where the step stops, and each record passed over has bytes.
 pub record Fillers (s : List ℕ) (p : ℕ) (c : Scan) : Type 0 where

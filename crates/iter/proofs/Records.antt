@@ -2,13 +2,14 @@
 -- Assumes nothing.
 use mathlib.Core.Path.{_≡_, refl, sym, _∙_, ap, subst}
 use mathlib.Core.List.{List, [], _∷_}
-use mathlib.Core.Bool.{Bool, true, false, cond}
+use mathlib.Core.Bool.{Bool, true, false, cond, _||_}
+use mathlib.Core.Logic.{inl, inr}
 use Prim.Native.Nat.{ℕ, zero, suc, _+_, _-_, _≤_, _<_}
 use native.Mathlib.Omega.{arith}
 use lib.ListN.{length, getD, take, drop, length-take, length-drop}
 use lib.Seq.{getD-take, getD-drop}
-use lib.Dec.{ltb}
-use borrow.Author.Tests.{ltb-false, lt-ltb, le-ltb}
+use lib.Dec.{ltb, eqb}
+use borrow.Author.Tests.{ltb-false, lt-ltb, le-ltb, eqb-true, eq-eqb}
 use Rattle.common.specs.Bytes.{le}
 use Rattle.common.specs.Reader.{refusal}
 use Rattle.common.specs.declared.Refusal.{Refusal}
@@ -16,7 +17,7 @@ use Rattle.constants.specs.Kind.{isFiller, nestingRole}
 use Rattle.constants.specs.Raw.{rawKind, nestingRoleOf}
 use Rattle.constants.specs.declared.Role.{Role}
 use Rattle.iter.specs.Step.{frameAt, plain, onKind, onFrame, scanFrom, within, scanOf}
-use Rattle.iter.specs.Reading.{Rec, Reading, recAt, ended, more, readOf}
+use Rattle.iter.specs.Reading.{Rec, Ending, ends, refuses, Reading, recAt, ended, more, readOf, Some, Begins, hasIndex, beginsAt}
 use Rattle.iter.specs.declared.Frame.{Frame}
 use Rattle.iter.specs.declared.Frame.the-variants as F
 use Rattle.iter.specs.declared.Next.{Next}
@@ -76,16 +77,16 @@ module _ (s : List ℕ) {kind : ℕ} (index start len next : ℕ) where
 -- what is shown of every reading by what its first step says: nothing is left, a refusal, or a record and the reading from its next position
 pub read-ind :
     (s : List ℕ) (P : ℕ → Reading → Type 0) →
-    ((at q : ℕ) → scanOf s at .step ≡ End q → P at (ended (scanOf s at))) →
-    ((at : ℕ) (e : Refusal) → scanOf s at .step ≡ Refused e → P at (ended (scanOf s at))) →
+    ((at q : ℕ) → scanOf s at .step ≡ End q → P at (ended (scanOf s at .fillers) (scanOf s at .«filler_bytes») ends)) →
+    ((at : ℕ) (e : Refusal) → scanOf s at .step ≡ Refused e → P at (ended (scanOf s at .fillers) (scanOf s at .«filler_bytes») (refuses e))) →
     ((at kind index start len next : ℕ) → scanOf s at .step ≡ Record kind index start len next → P next (readOf s next) →
     P at (more (recAt s (scanOf s at) index start len) (readOf s next))) →
     (at : ℕ) → P at (readOf s at)
-read-ind s P ends refuses goes at = by (suc (length s)) at (omega arith)
+read-ind s P at-end at-refusal goes at = by (suc (length s)) at (omega arith)
   where
     step : (at : ℕ) → ((q : ℕ) → at < q → q ≤ length s → P q (readOf s q)) → (n : Next) → scanOf s at .step ≡ n → P at (readOf s at)
-    step at ih (End q) e = subst (P at) (sym (read-by s at (End q) e)) (ends at q e)
-    step at ih (Refused x) e = subst (P at) (sym (read-by s at (Refused x) e)) (refuses at x e)
+    step at ih (End q) e = subst (P at) (sym (read-by s at (End q) e)) (at-end at q e)
+    step at ih (Refused x) e = subst (P at) (sym (read-by s at (Refused x) e)) (at-refusal at x e)
     step at ih (Record kind index start len next) e =
         let y = step-fits s at index start len next e in
         subst (P at) (sym (read-by s at (Record kind index start len next) e)) (goes at kind index start len next e (ih next (omega arith) (omega arith)))
@@ -157,20 +158,51 @@ abbrev pub bytesRead : Reading → ℕ
 bytesRead r = bytesOfRecords (r .recs) + r .last .«filler_bytes»
 
 -- a reading that ends at the end of the stream passes over or yields every byte from its start on
-pub adds-up : (s : List ℕ) (at : ℕ) → ((e : Refusal) → readOf s at .last .step ≡ Refused e → ⊥) → bytesRead (readOf s at) ≡ length s - at
+pub adds-up : (s : List ℕ) (at : ℕ) → readOf s at .last .ending ≡ ends → bytesRead (readOf s at) ≡ length s - at
 adds-up s =
-    read-ind s (λ at r. ((e : Refusal) → r .last .step ≡ Refused e → ⊥) → bytesRead r ≡ length s - at)
+    read-ind s (λ at r. r .last .ending ≡ ends → bytesRead r ≡ length s - at)
     (λ at q e d. at-end at q e)
-    (λ at x e d. absurd (d x e))
+    (λ at x e d. absurd (refuses-not-ends d))
     (λ at kind index start len next e ih d.
     let y = step-fits s at index start len next e in
     let k = fillers-to s at index start len next e in
     let i = ih d in
     omega (arith, bytes-length s at index start len next e))
   where
+    refuses-not-ends : {e : Refusal} → refuses e ≡ ends → ⊥
+    refuses-not-ends d = let z : _≡_ {A = ℕ} 0 1 = cc in omega arith
+
     at-end : (at q : ℕ) → scanOf s at .step ≡ End q → 0 + scanOf s at .«filler_bytes» ≡ length s - at
     at-end at q e = go (ltb at (length s)) refl (fillers-of s at)
       where
         go : (b : Bool) → ltb at (length s) ≡ b → Fillers s (cond b at (length s)) (scanOf s at) → 0 + scanOf s at .«filler_bytes» ≡ length s - at
         go true eb k = omega (arith, k .at-end q e, end-is s at q e)
         go false eb k = omega (arith, k .at-end q e, end-is s at q e, ltb-false)
+
+-- that a record begins at a position, and that the question whether one does is answered so, are one
+has-index : (i : ℕ) (rs : List Rec) → hasIndex i rs ≡ true → Some (λ r. r .index ≡ i) rs
+unfolding hasIndex
+has-index i [] e = absurd (let z : _≡_ {A = ℕ} 0 1 = cc in omega arith)
+has-index i (r ∷ rs) e₀ = go (eqb (r .index) i) refl (has-index i rs) e₀
+  where
+    go : (b : Bool) → eqb (r .index) i ≡ b → (hasIndex i rs ≡ true → Some (λ q. q .index ≡ i) rs) → (b || hasIndex i rs) ≡ true → Some (λ q. q .index ≡ i) (r ∷ rs)
+    go true q ih e = inl (eqb-true (r .index) i q)
+    go false q ih e = inr (ih e)
+
+index-has : (i : ℕ) (rs : List Rec) → Some (λ r. r .index ≡ i) rs → hasIndex i rs ≡ true
+unfolding hasIndex
+index-has i [] b = absurd b
+index-has i (r ∷ rs) (inl e) = rw (eq-eqb (r .index) i e)
+index-has i (r ∷ rs) (inr b) = go (eqb (r .index) i) (index-has i rs b)
+  where
+    go : (a : Bool) → hasIndex i rs ≡ true → (a || hasIndex i rs) ≡ true
+    go true e = refl
+    go false e = e
+
+pub begins : (s : List ℕ) (start i : ℕ) → beginsAt s start i ≡ true → Begins s start i
+unfolding beginsAt
+begins s start i = has-index i (readOf s start .recs)
+
+pub begins-at : (s : List ℕ) (start i : ℕ) → Begins s start i → beginsAt s start i ≡ true
+unfolding beginsAt
+begins-at s start i = index-has i (readOf s start .recs)

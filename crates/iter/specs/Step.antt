@@ -40,7 +40,8 @@ onFrame p F.Nothing on = plain (End p)
 onFrame p (F.Refused e) on = plain (Refused e)
 onFrame p (F.Whole kind len) on = onKind (isFiller kind) kind p len on
 
--- a step from p, where at most k records follow
+-- A step from p, where at most k records follow. (Where k runs out it answers End; that `scanOf` never does so early is the law `end-is` of
+-- proofs/Reading.antt: End is answered at the end of the stream alone.)
 unfoldable pub scanFrom : ℕ → List ℕ → ℕ → Scan
 scanFrom zero s p = plain (End p)
 scanFrom (suc k) s p = onFrame p (frameAt s p) (λ q. scanFrom k s q)

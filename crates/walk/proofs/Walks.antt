@@ -27,7 +27,7 @@ use Rattle.constants.specs.Raw.{rawKind}
 use Rattle.walk.specs.declared.Turn.{Turn}
 use Rattle.walk.specs.declared.Turn.the-variants as T
 use Rattle.chain.specs.Finding.{Walk, seen, refusedWith, foundBy, refusedBy, answerOf}
-use Rattle.walk.specs.Walk.{turnOfRole, turnOf, onTurn, walkLast, walkOn, walkFrom, walkOf}
+use Rattle.walk.specs.Walk.{turnOfRole, turnOf, onTurn, walkOn, walkFrom, walkOf}
 use Rattle.chain.proofs.Goings.{Going, ends, onward}
 
 -- an opener is pushed only below 64, and a closer pops only where one is open
@@ -84,8 +84,8 @@ walkAt s i at st = walkFrom i (readOf s at) st
 
 pub walk-by : (s : List ℕ) (i at : ℕ) (st : List ℕ) (n : Next) → scanOf s at .step ≡ n → walkAt s i at st ≡ onStep s i (scanOf s at) n (walkAt s i) st
 unfolding walkFrom walkOn
-walk-by s i at st (N.End p) e = ap (λ (x : Reading). walkFrom i x st) (read-by s at (N.End p) e) ∙ ap walkLast e
-walk-by s i at st (N.Refused x) e = ap (λ (y : Reading). walkFrom i y st) (read-by s at (N.Refused x) e) ∙ ap walkLast e
+walk-by s i at st (N.End p) e = ap (λ (x : Reading). walkFrom i x st) (read-by s at (N.End p) e)
+walk-by s i at st (N.Refused x) e = ap (λ (y : Reading). walkFrom i y st) (read-by s at (N.Refused x) e)
 walk-by s i at st (N.Record kind index from len next) e = ap (λ (x : Reading). walkFrom i x st) (read-by s at (N.Record kind index from len next) e)
 
 -- the loop's invariant

@@ -7,9 +7,7 @@ use lib.Dec.{ltb, leb, eqb}
 use Rattle.common.specs.Reader.{refusal}
 use Rattle.constants.specs.declared.Role.{Role}
 use Rattle.constants.specs.declared.Role.the-variants.{Neither, Opens, Closes}
-use Rattle.iter.specs.Reading.{Rec, Reading, readOf}
-use Rattle.iter.specs.declared.Next.{Next}
-use Rattle.iter.specs.declared.Next.the-variants as N
+use Rattle.iter.specs.Reading.{Rec, Ending, ends, refuses, Reading, readOf}
 use Rattle.constants.specs.Kind.{nestingRole}
 use Rattle.constants.specs.Raw.{rawKind}
 use Rattle.chain.specs.Finding.{Walk, seen, foundAt, refusedWith, findingOf}
@@ -38,20 +36,19 @@ onTurn r st T.Pop on = seen r (on (tail st))
 onTurn r st T.Found on = foundAt r st
 onTurn r st (T.Refused e) on = seen r (refusedWith e)
 
--- Where no record is left: step's refusals; End is 14. (A reading never ends at a record.)
-abbrev pub walkLast : Next → Walk
-walkLast (N.End p) = refusedWith (refusal 14 0 0)
-walkLast (N.Refused e) = refusedWith e
-walkLast (N.Record kind index start len next) = refusedWith (refusal 14 0 0)
+-- Where no record is left: step's refusals; End is 14.
+abbrev pub walkEnd : Ending → Walk
+walkEnd ends = refusedWith (refusal 14 0 0)
+walkEnd (refuses e) = refusedWith e
 
-unfoldable pub walkOn : ℕ → Next → List Rec → List ℕ → Walk
-walkOn i last [] st = walkLast last
-walkOn i last (r ∷ rs) st = onTurn r st (turnOf i (r .index) (rawKind (r .bytes)) (length st)) (λ st'. walkOn i last rs st')
+unfoldable pub walkOn : ℕ → Ending → List Rec → List ℕ → Walk
+walkOn i ending [] st = walkEnd ending
+walkOn i ending (r ∷ rs) st = onTurn r st (turnOf i (r .index) (rawKind (r .bytes)) (length st)) (λ st'. walkOn i ending rs st')
 
 -- the walk over a reading, with a stack
 unfoldable pub walkFrom : ℕ → Reading → List ℕ → Walk
 unfolding walkOn
-walkFrom i reading st = walkOn i (reading .last .step) (reading .recs) st
+walkFrom i reading st = walkOn i (reading .last .ending) (reading .recs) st
 
 unfoldable pub walkOf : List ℕ → ℕ → ℕ → Finding
 unfolding walkFrom
