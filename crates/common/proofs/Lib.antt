@@ -1,4 +1,5 @@
 pub mod Laws
 pub mod Readers
+pub mod Numbers
 pub mod Rows
 pub mod TwosComplement

@@ -1,3 +1,4 @@
 pub mod Fuel
 pub mod Jumps
 pub mod Hops
+pub mod Numbers

@@ -1,1 +1,2 @@
 mod Replies
+mod Exported

@@ -2,6 +2,10 @@
 //
 // A call that answers returns 0 and writes its words to those lent to it, from place 0 on; one that refuses returns the number of the
 // refusal and writes two, position and detail. Every other word stays as it was. No call keeps a reference or allocates.
+//
+// Module `condition3`: what is proved of the check and the finders together.
+pub mod condition3;
+
 ghost use Rattle.constants.specs.Raw.{rawKind};
 ghost use Rattle.symbol.specs.Decode.{decode};
 ghost use Rattle.symbol.specs.Name.{nameOf};
@@ -13,6 +17,7 @@ ghost use Rattle.jump.specs.Jump.{jumpOf};
 ghost use Rattle.climb.specs.Climb.{climbOf};
 ghost use Rattle.reply.specs.Reply.{Replied};
 ghost use Rattle.reply.specs.Replies.{stepReply, kindReply, decodeReply, nameReply, entryReply, checkReply, findingReply};
+ghost use Rattle.mitrelilac.specs.Exported.{call, SumsUp};
 use records::Decoded;
 
 // One step from a position. End: 0, position. A record: 1, index, where its bytes start, how many they are, next position.
@@ -69,6 +74,7 @@ pub extern "C" fn mitrelilac_register_entry(rec: &[u8], k: usize, out: &mut [u64
 #[no_mangle]
 pub extern "C" fn mitrelilac_check(stream: &[u8], start: usize, out: &mut [u64; 6]) -> u32
     ensures { λ r. ⌜ Replied (checkReply (checkOf (now (stream .entry)) start)) r (now (out .entry)) (now (out .exit)) ⌝ }
+    ensures { λ r. ⌜ SumsUp (now (stream .entry)) start (call r (now (out .exit))) ⌝ }
 {
     reply::operation::reply_check(check_nesting::check(stream, start), out)
 }
@@ -79,10 +85,10 @@ pub extern "C" fn mitrelilac_check(stream: &[u8], start: usize, out: &mut [u64; 
 pub extern "C" fn mitrelilac_walk(stream: &[u8], start: usize, i: usize, out: &mut [u64; 66]) -> u32
     ensures { λ r. ⌜ Replied (findingReply (walkOf (now (stream .entry)) start i)) r (now (out .entry)) (now (out .exit)) ⌝ }
 {
-    let f = walk::walk(stream, start, i);
-    let found = f.out;
-    let chain = f.chain;
-    reply::reply_chain(found, f.count, chain, out)
+    let walked = walk::walk(stream, start, i);
+    let found = walked.out;
+    let chain = walked.chain;
+    reply::reply_chain(found, walked.count, chain, out)
 }
 
 // As walking, but scopes that close before i are jumped over.
@@ -90,10 +96,10 @@ pub extern "C" fn mitrelilac_walk(stream: &[u8], start: usize, i: usize, out: &m
 pub extern "C" fn mitrelilac_jump(stream: &[u8], start: usize, i: usize, out: &mut [u64; 66]) -> u32
     ensures { λ r. ⌜ Replied (findingReply (jumpOf (now (stream .entry)) start i)) r (now (out .entry)) (now (out .exit)) ⌝ }
 {
-    let f = jump::jump(stream, start, i);
-    let found = f.out;
-    let chain = f.chain;
-    reply::reply_chain(found, f.count, chain, out)
+    let jumped = jump::jump(stream, start, i);
+    let found = jumped.out;
+    let chain = jumped.chain;
+    reply::reply_chain(found, jumped.count, chain, out)
 }
 
 // The scopes that enclose the opener at i, by parent fields: the number of links, then as walking, but the innermost first.
@@ -101,8 +107,8 @@ pub extern "C" fn mitrelilac_jump(stream: &[u8], start: usize, i: usize, out: &m
 pub extern "C" fn mitrelilac_climb(stream: &[u8], i: usize, out: &mut [u64; 66]) -> u32
     ensures { λ r. ⌜ Replied (findingReply (climbOf (now (stream .entry)) i)) r (now (out .entry)) (now (out .exit)) ⌝ }
 {
-    let f = climb::climb(stream, i);
-    let found = f.out;
-    let chain = f.chain;
-    reply::reply_chain(found, f.count, chain, out)
+    let climbed = climb::climb(stream, i);
+    let found = climbed.out;
+    let chain = climbed.chain;
+    reply::reply_chain(found, climbed.count, chain, out)
 }

@@ -1,3 +1,4 @@
 pub mod Run
 pub mod Names
 pub mod Rows
+pub mod Numbers

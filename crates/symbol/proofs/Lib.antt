@@ -2,3 +2,4 @@ pub mod Fields
 pub mod Rows
 pub mod Lists
 pub mod Decoding
+pub mod Numbers
