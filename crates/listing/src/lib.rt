@@ -74,9 +74,8 @@ fn put_refused(number: u8, position: usize, at: usize, out: &mut [u8]) -> usize
 }
 
 // The lines of a stream that is not too long, from behind its signature on.
-fn put_lines(s: &[u8], out: &mut [u8]) -> usize
+fn put_lines(s: &[u8], out: &mut [u8; TEXT_ROOM]) -> usize
     requires { ⌜ length (now s) ≤ 65536 ⌝ }
-    requires { ⌜ 851968 ≤ length (now out) ⌝ }
     ensures { λ r. ⌜ Puts (textOf (readOf (now (s .entry)) 4)) 0 (now (out .entry)) (now (out .exit)) r ⌝ }
 {
     let mut at: usize = 4;

@@ -1,7 +1,7 @@
 -- `listing::put_lines` meets its contract. The loop's invariant is `Listing`; the measure is the number of bytes that are left.
 -- Assumes nothing.
 use borrow.Author.Needs.{needs}
-use mathlib.Core.Path.{_≡_, refl, sym, _∙_}
+use mathlib.Core.Path.{_≡_, sym, _∙_}
 use Prim.Native.Nat.{_-_}
 use native.Mathlib.Omega.{arith}
 use lib.ListN.{length}
@@ -13,34 +13,34 @@ use Rattle.listing.proofs.put_lines.Statement.{statement}
 use Rattle.listing.proofs.put_lines.Tie as tie
 
 abbrev Inv-loop : tie.InvT-loop
-Inv-loop s out₀ at₀ n₀ out at n = (length out ≡ length out₀) × Listing s out₀ out at n
+Inv-loop s out₀ at₀ n₀ out at n = Listing s out₀ out at n
 
 abbrev μ-loop : tie.MeasureT-loop
 μ-loop s out₀ at₀ n₀ out at n = length s - at
 
 loop-holds : tie.Need-loop-holds Inv-loop μ-loop
-loop-holds c = (refl, begins _ _)
+loop-holds c = begins _ _
 
 returns : tie.Need-returns Inv-loop μ-loop
 returns c =
     let step = c .before .before in
-    at-end _ _ _ _ _ (step .before .loop .inv .1) _ (sym (step .step .ensures) ∙ c .enum-told .given .1)
+    at-end _ _ _ _ _ (step .before .loop .inv) _ (sym (step .step .ensures) ∙ c .enum-told .given .1)
 
 put-refused-requires : tie.Need-put-refused-requires Inv-loop μ-loop
 put-refused-requires c κs =
     let told = c .before .before in
     let e = told .e .given .0 .0 in
-    omega (arith, refused-most (e .number) (e .position), told .before .before .before .loop .inv .1)
+    omega (arith, refused-most (e .number) (e .position), told .before .before .before .loop .inv)
 
 returns-2 : tie.Need-returns-2 Inv-loop μ-loop
 returns-2 c =
-    let told = c .before .before .before .before .before in
+    let told = c .before .before .before in
     let step = told .before .before in
-    at-refused _ _ _ _ _ (step .before .loop .inv .1) _ (sym (step .step .ensures) ∙ told .e .given .1) _ _ (c .before .before .put-refused .ensures)
+    at-refused _ _ _ _ _ (step .before .loop .inv) _ (sym (step .step .ensures) ∙ told .e .given .1) _ _ (c .put-refused .ensures)
 
 -- the record that the step yielded
 yields : (c : tie.After-index Inv-loop μ-loop) →
-    stepOf (c .before .before .before .before .before .before .args .s .now) (c .before .before .before .loop .at)
+    stepOf (c .before .before .before .before .before .args .s .now) (c .before .before .before .loop .at)
     ≡ Record (c .index .given .0 .0) (c .index .given .0 .1 .0) (c .index .given .0 .1 .1 .0) (c .index .given .0 .1 .1 .1 .0) (c .index .given .0 .1 .1 .1 .1 .0)
 yields c = sym (c .before .before .step .ensures) ∙ c .index .given .1
 
@@ -57,16 +57,16 @@ put-line-requires : tie.Need-put-line-requires Inv-loop μ-loop
 put-line-requires c κs =
     let told = c .before .before .before in
     let l = told .before .before .before .loop in
-    omega (arith, l .inv .0, stepped _ _ _ _ _ _ _ (yields told), line-room _ _ _ _ _ (l .inv .1) _ _ _ _ _ (yields told))
+    omega (arith, stepped _ _ _ _ _ _ _ (yields told), line-room _ _ _ _ _ (l .inv) _ _ _ _ _ (yields told))
 
 loop-less : tie.Need-loop-less Inv-loop μ-loop
-loop-less c = omega (arith, stepped _ _ _ _ _ _ _ (yields (c .before .before .before .before .before .before)))
+loop-less c = omega (arith, stepped _ _ _ _ _ _ _ (yields (c .before .before .before .before)))
 
 loop-again : tie.Need-loop-again Inv-loop μ-loop
 loop-again c =
-    let told = c .before .before .before .before .before .before in
+    let told = c .before .before .before .before in
     let l = told .before .before .before .loop in
-    (search needs, after-line _ _ _ _ _ (l .inv .1) _ _ _ _ _ (yields told) (omega arith) _ _ (c .before .before .put-line .ensures))
+    after-line _ _ _ _ _ (l .inv) _ _ _ _ _ (yields told) (omega arith) _ _ (c .put-line .ensures)
 
 pub put-lines-spec : {M : Type 1} → statement M
 put-lines-spec =
@@ -77,11 +77,9 @@ put-lines-spec =
     loop-holds
     (λ c κs. search needs)
     (λ c. search needs)
-    (λ c. search needs)
     returns
     (λ c. search needs)
     put-refused-requires
-    (λ c. search needs)
     returns-2
     (λ c. search needs)
     sub-put-line
