@@ -15,7 +15,9 @@ fn list_case(number: u64) -> bool {
     io::write_all(1, b"case ");
     io::print_decimal(1, number);
     io::write_all(1, b"\n");
-    listing::print_listing(&stream[..n]);
+    let mut text = [0u8; listing::TEXT_ROOM];
+    let written = listing::put_listing(&stream[..n], &mut text);
+    io::write_all(1, &text[..written]);
     true
 }
 

@@ -14,8 +14,8 @@ slice-aggregate-read-full-2 c = sym (length-take-le _ _ (omega arith))
 array-share-prefix-stream : tie.Need-array-share-prefix-stream
 array-share-prefix-stream c = simp length-append (omega arith)
 
-slice-aggregate-print-listing : tie.Need-slice-aggregate-print-listing
-slice-aggregate-print-listing c = sym (length-take-le _ _ (simp length-append (omega arith)))
+slice-aggregate-put-listing : tie.Need-slice-aggregate-put-listing
+slice-aggregate-put-listing c = sym (length-take-le _ _ (simp length-append (omega arith)))
 
 pub list-case-spec : {M : Type 1} → statement M
 list-case-spec =
@@ -38,6 +38,9 @@ list-case-spec =
     (λ c. search needs)
     (λ c κs. search needs)
     array-share-prefix-stream
-    slice-aggregate-print-listing
+    slice-aggregate-put-listing
+    (λ c κs. search needs)
+    (λ c. search needs)
+    (λ c. search needs)
     (λ c κs. search needs)
     (λ c. search needs))

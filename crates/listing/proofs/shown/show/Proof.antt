@@ -1,42 +1,38 @@
--- `listing::shown::show` meets its contract. The loop's invariant: the bytes passed stand in the piece as they are shown, and those behind
--- them as they were. The measure is the number of bytes that are left.
+-- `listing::shown::show` meets its contract. The loop's invariant: so many bytes of the name stand as they are shown, and all others are
+-- as they were. The measure is the number of bytes that are left.
 -- Assumes nothing.
 use borrow.Author.Needs.{needs}
-use mathlib.Core.Path.{_≡_, refl, sym}
-use mathlib.Core.Logic.{⊎-elim}
-use Prim.Native.Nat.{_≤_, _-_, min}
+use mathlib.Core.Path.{_≡_, refl, sym, _∙_}
+use mathlib.Core.List.{map}
+use Prim.Native.Nat.{_≤_, _-_}
 use native.Mathlib.Omega.{arith}
-use lib.ListN.{length}
-use lib.Seq.{length-take-le}
-use Rattle.listing.proofs.Pieces.{showing, one-more}
+use lib.ListN.{length, length-map, List·getD-map}
+use lib.Seq.{paste, paste-zero}
+use Rattle.listing.specs.Listing.{shownByte}
+use Rattle.listing.proofs.Writing.{one-more, all-put}
 use Rattle.listing.proofs.shown.show.Statement.{statement}
 use Rattle.listing.proofs.shown.show.Tie as tie
 
 abbrev Inv-loop : tie.InvT-loop
-Inv-loop name from piece₀ n i₀ piece i =
-    (length piece ≡ length piece₀) × (i ≤ n) × (n ≡ min (length piece) (length name - from)) × (piece ≡ showing name from piece₀ i)
+Inv-loop name at out₀ i₀ out i = (length out ≡ length out₀) × (i ≤ length name) × (out ≡ paste out₀ at (map shownByte name) i)
 
 abbrev μ-loop : tie.MeasureT-loop
-μ-loop name from piece₀ n i₀ piece i = n - i
+μ-loop name at out₀ i₀ out i = length name - i
 
 loop-holds : tie.Need-loop-holds Inv-loop μ-loop
-loop-holds c = (refl, search needs, ⊎-elim (λ w. omega arith) (λ w. omega arith) (c .if1 .came), refl)
+loop-holds c =
+    let a = c .before .before .args in
+    (refl, search needs, paste-zero (a .out .now) (a .at) (map shownByte (a .name .now)))
 
 loop-again : tie.Need-loop-again Inv-loop μ-loop
 loop-again c =
     let l = c .before .before .before .loop in
-    let a = c .before .before .before .before .before .before .before .args in
-    let shown = one-more (a .name .now) (a .piece .now) (l .piece) (a .from) (l .i) _ (omega arith) (omega arith) (c .shown .ensures) (l .inv .3) in
-    (search needs, search needs, search needs, shown)
-
-same-length : tie.Need-same-length Inv-loop μ-loop
-same-length c = c .before .loop .inv .0
+    let name = c .before .before .before .before .before .before .args .name .now in
+    let is = c .shown .ensures ∙ sym (List·getD-map shownByte name (l .i) 0) in
+    (search needs, search needs, one-more (map shownByte name) _ _ _ _ _ (shownByte 0) (omega arith) (omega (arith, length-map name shownByte)) is (l .inv .2))
 
 returns : tie.Need-returns Inv-loop μ-loop
-returns c =
-    let l = c .before .loop in
-    let e : l .i ≡ c .before .before .if1 .n = omega arith in
-    ((omega arith, sym (length-take-le _ (l .piece) (omega arith))), (l .inv .2, rw e at (l .inv .3)))
+returns c = all-put _ _ _ _ _ (omega (arith, length-map (c .before .before .before .before .args .name .now) shownByte)) (c .before .loop .inv .2)
 
 pub show-spec : {M : Type 1} → statement M
 show-spec =
@@ -44,14 +40,14 @@ show-spec =
     (tie.spec
     Inv-loop
     μ-loop
-    (λ c. search needs)
     loop-holds
-    (λ c. search needs)
     (λ c. search needs)
     (λ c κs. search needs)
     (λ c. search needs)
     (λ c. search needs)
     (λ c. search needs)
+    (λ c. search needs)
     loop-again
-    same-length
+    (λ c. search needs)
+    (λ c. search needs)
     returns)
