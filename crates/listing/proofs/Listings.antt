@@ -25,11 +25,11 @@ stepped s at kind index start len next e = step-fits s at index start len next e
 module _ (s : List ℕ) (at : ℕ) where
   text-end : (q : ℕ) → stepOf s at ≡ End q → textOf (readOf s at) ≡ []
   unfolding stepOf textOf linesOf
-  text-end q e = ap textOf (read-by s at (End q) e) ∙ ap lastLine e
+  text-end q e = ap textOf (read-by s at (End q) e)
 
   text-refused : (r : Refusal) → stepOf s at ≡ Refused r → textOf (readOf s at) ≡ refusedLine (r .number) (r .position)
   unfolding stepOf textOf linesOf
-  text-refused r e = ap textOf (read-by s at (Refused r) e) ∙ ap lastLine e
+  text-refused r e = ap textOf (read-by s at (Refused r) e)
 
   text-record :
       (kind index start len next : ℕ) → stepOf s at ≡ Record kind index start len next →
@@ -39,7 +39,7 @@ module _ (s : List ℕ) (at : ℕ) where
       let y = stepped s at kind index start len next e in
       let count : len ≡ next - start = omega (arith, y .yielded) in
       ap textOf (read-by s at (Record kind index start len next) e)
-      ∙ append-assoc (lineOf index (take len (drop start s))) (linesOf (readOf s next .recs)) (lastLine (readOf s next .last .step))
+      ∙ append-assoc (lineOf index (take len (drop start s))) (linesOf (readOf s next .recs)) (lastLine (readOf s next .last .ending))
       ∙ ap (λ (k : ℕ). lineOf index (take k (drop start s)) ++ textOf (readOf s next)) count
 
 -- `done` stands at the start of the lent bytes, and what is listed from here on is the rest of the listing

@@ -11,9 +11,7 @@ use Rattle.records.specs.declared.OptionPart.the-variants.{None, Some}
 use Rattle.symbol.specs.declared.name.Named.{Named}
 use Rattle.symbol.specs.declared.name.Named.the-variants as N
 use Rattle.symbol.specs.Name.{nameOf}
-use Rattle.iter.specs.declared.Next.{Next}
-use Rattle.iter.specs.declared.Next.the-variants.{End, Refused, Record}
-use Rattle.iter.specs.Reading.{Rec, Reading, readOf}
+use Rattle.iter.specs.Reading.{Rec, Ending, ends, refuses, Reading, readOf}
 
 abbrev pub space : List ℕ
 space = 0x20 ∷ []
@@ -54,13 +52,12 @@ linesOf [] = []
 linesOf (r ∷ rs) = lineOf (r .index) (r .bytes) ++ linesOf rs
 
 -- a refused step ends it
-abbrev pub lastLine : Next → List ℕ
-lastLine (End p) = []
-lastLine (Refused e) = refusedLine (e .number) (e .position)
-lastLine (Record kind index start len next) = []
+abbrev pub lastLine : Ending → List ℕ
+lastLine ends = []
+lastLine (refuses e) = refusedLine (e .number) (e .position)
 
 unfoldable pub textOf : Reading → List ℕ
-textOf r = linesOf (r .recs) ++ lastLine (r .last .step)
+textOf r = linesOf (r .recs) ++ lastLine (r .last .ending)
 
 -- above 65,536 bytes: `refused 5 0`; walks from 4
 unfoldable pub listingOf : List ℕ → List ℕ
