@@ -4,8 +4,9 @@ use mathlib.Core.Path.{_≡_}
 use mathlib.Core.List.{List, [], _∷_}
 use lib.ListN.{length, take, drop, getD}
 use Rattle.iter.specs.Step.{within}
+use Rattle.iter.specs.Reading.{Begins}
 use Rattle.chain.specs.declared.Chain.{Chain}
-use Rattle.agreement.specs.Agreement.{Begins, OpenerBegins, enclosing, reversed}
+use Rattle.agreement.specs.Agreement.{OpenerBegins, enclosing, reversed}
 
 -- what a call returned, and the words that were lent to it, as they are afterwards
 pub record Call : Type 0 where
