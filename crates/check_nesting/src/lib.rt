@@ -58,6 +58,7 @@ fn no_counts() -> Counts
     }
 }
 
+// The larger of two depths.
 fn deeper(a: usize, b: usize) -> usize
     ensures { λ r. ⌜ r ≡ larger a b ⌝ }
 {
@@ -67,12 +68,20 @@ fn deeper(a: usize, b: usize) -> usize
     a
 }
 
-// The answer at End, with so many openers open and this the innermost's index.
+// The answer at End, with so many openers open and this the innermost's index. The counts are given field by field: copied whole into the
+// answer, where a refusal's number of one byte has its place, the count of records is kept in two pieces all along the loop.
 fn at_end(n: Counts, depth: usize, inner: u32) -> Checked
     ensures { λ r. ⌜ ((st : List Open) → length st ≡ depth → innerIndex st ≡ inner → r ≡ answerBy (onEnd ends st) n) ⌝ }
 {
     if depth == 0 {
-        return Checked::Good(n);
+        return Checked::Good(Counts {
+            records: n.records,
+            bytes: n.bytes,
+            fillers: n.fillers,
+            filler_bytes: n.filler_bytes,
+            openers: n.openers,
+            deepest: n.deepest,
+        });
     }
     Checked::Refused(Refusal::at(Refusal::LEFT_OPEN, inner as usize))
 }
