@@ -54,14 +54,17 @@ pub begins : (s before : List ℕ) → Listing s before before 4 0
 begins s before = record { done = []; put = record { ends = refl; bytes = refl }; goes-on = refl; room = omega arith; within = omega arith }
 
 module _ (s before out : List ℕ) (at n : ℕ) (l : Listing s before out at n) where
+  the-rest : {rest : List ℕ} → textOf (readOf s at) ≡ rest → l .done ++ rest ≡ textOf (readOf s 4)
+  the-rest e = ap (λ (t : List ℕ). l .done ++ t) (sym e) ∙ l .goes-on
+
   pub at-end : (q : ℕ) → stepOf s at ≡ End q → Puts (textOf (readOf s 4)) 0 before out n
-  at-end q e = same-text _ _ _ _ _ _ (sym (append-nil (l .done)) ∙ ap (λ (t : List ℕ). l .done ++ t) (sym (text-end s at q e)) ∙ l .goes-on) (l .put)
+  at-end q e = same-text _ _ _ _ _ _ (sym (append-nil (l .done)) ∙ the-rest (text-end s at q e)) (l .put)
 
   pub at-refused :
       (r : Refusal) → stepOf s at ≡ Refused r →
       (out' : List ℕ) (to : ℕ) → Puts (refusedLine (r .number) (r .position)) n out out' to → Puts (textOf (readOf s 4)) 0 before out' to
   at-refused r e out' to p =
-      same-text _ _ _ _ _ _ (ap (λ (t : List ℕ). l .done ++ t) (sym (text-refused s at r e)) ∙ l .goes-on) (both _ _ _ _ _ _ _ _ (omega arith) (l .put) p)
+      same-text _ _ _ _ _ _ (the-rest (text-refused s at r e)) (both _ _ _ _ _ _ _ _ (omega arith) (l .put) p)
 
   -- the line of a record has room behind the lines before it
   pub line-room :
@@ -83,9 +86,7 @@ module _ (s before out : List ℕ) (at n : ℕ) (l : Listing s before out at n) 
         done = l .done ++ line;
         put = both _ _ _ _ _ _ _ _ (omega arith) (l .put) p;
         goes-on =
-            append-assoc (l .done) line (textOf (readOf s next))
-            ∙ ap (λ (t : List ℕ). l .done ++ t) (sym (text-record s at kind index start len next e))
-            ∙ l .goes-on;
+            append-assoc (l .done) line (textOf (readOf s next)) ∙ the-rest (text-record s at kind index start len next e);
         room = omega (arith, p .ends, line-room kind index start len next e);
         within = omega (arith, y .yielded);
       }

@@ -31,19 +31,32 @@ all-put text before out at i all e =
 pub same-text : (xs ys before after : List ℕ) (at to : ℕ) → xs ≡ ys → Puts xs at before after to → Puts ys at before after to
 same-text xs ys before after at to e p = subst (λ (text : List ℕ). Puts text at before after to) e p
 
+-- what stands before the end of a text that was put, and behind it
+module _ (xs a b : List ℕ) (at m : ℕ) (room : at ≤ length a) (p : Puts xs at a b m) where
+  head : length (take at a ++ xs) ≡ m
+  head = length-append (take at a) xs ∙ ap (λ (n : ℕ). n + length xs) (length-take-le at a room) ∙ sym (p .ends)
+
+  front : take m b ≡ take at a ++ xs
+  front = ap (take m) (p .bytes) ∙ take-at (take at a ++ xs) (drop m a) m head
+
+  behind : (n : ℕ) → drop (m + n) b ≡ drop (m + n) a
+  behind n =
+      sym (drop-drop n m b)
+      ∙ ap (drop n) (ap (drop m) (p .bytes) ∙ drop-at (take at a ++ xs) (drop m a) m head)
+      ∙ drop-drop n m a
+
 -- one text behind another
 pub both :
     (xs ys a b c : List ℕ) (at m to : ℕ) → at ≤ length a → Puts xs at a b m → Puts ys m b c to → Puts (xs ++ ys) at a c to
 both xs ys a b c at m to room p q =
-    let head : length (take at a ++ xs) ≡ m = length-append (take at a) xs ∙ ap (λ (n : ℕ). n + length xs) (length-take-le at a room) ∙ sym (p .ends) in
-    let sum : length (xs ++ ys) ≡ length xs + length ys = length-append xs ys in
-    let front : take m b ≡ take at a ++ xs = ap (take m) (p .bytes) ∙ take-at (take at a ++ xs) (drop m a) m head in
-    let behind : drop m b ≡ drop m a = ap (drop m) (p .bytes) ∙ drop-at (take at a ++ xs) (drop m a) m head in
-    let rest : drop to b ≡ drop to a =
-    ap (λ (n : ℕ). drop n b) (q .ends) ∙ sym (drop-drop (length ys) m b) ∙ ap (drop (length ys)) behind ∙ drop-drop (length ys) m a ∙ ap (λ (n : ℕ). drop n a) (sym (q .ends)) in
+    let rest : drop to b ≡ drop to a = rw (q .ends) (behind xs a b at m room p (length ys)) in
     record {
-      ends = omega (arith, p .ends, q .ends);
-      bytes = q .bytes ∙ ap (λ (l : List ℕ). l ++ ys ++ drop to b) front ∙ ap (λ (l : List ℕ). l ++ drop to b) (append-assoc (take at a) xs ys) ∙ ap (λ (l : List ℕ). take at a ++ (xs ++ ys) ++ l) rest;
+      ends = omega (arith, p .ends, q .ends, length-append xs ys);
+      bytes =
+          q .bytes
+          ∙ ap (λ (l : List ℕ). l ++ ys ++ drop to b) (front xs a b at m room p)
+          ∙ ap (λ (l : List ℕ). l ++ drop to b) (append-assoc (take at a) xs ys)
+          ∙ ap (λ (l : List ℕ). take at a ++ (xs ++ ys) ++ l) rest;
     }
 
 -- where text stands at the start, its length is a count of bytes there

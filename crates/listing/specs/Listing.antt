@@ -19,7 +19,7 @@ space = 0x20 ∷ []
 abbrev pub newline : List ℕ
 newline = 0x0a ∷ []
 
--- a number of up to k digits in decimal: the digits of its tenth, if it has any, and its last digit
+-- a number in decimal, in up to k digits: those of its tenth where it is 10 or more, and then its last one
 unfoldable pub decimalIn : ℕ → ℕ → List ℕ
 decimalIn zero n = []
 decimalIn (suc k) n = cond (ltb n 10) [] (decimalIn k (n / 10)) ++ (glyph (n % 10) ∷ [])
@@ -38,7 +38,7 @@ nameShown bytes (N.Answer None) = 0x2d ∷ []
 nameShown bytes (N.Answer (Some p)) = map shownByte (bytesOf bytes p)
 nameShown bytes (N.Refused e) = 0x21 ∷ decimal (e .number)
 
--- one space between: index, four lower-case hexadecimal kind digits, name
+-- one space between: index, four lower-case hexadecimal kind digits, name; each line ends in a line feed
 unfoldable pub lineOf : ℕ → List ℕ → List ℕ
 lineOf index bytes = decimal index ++ space ++ digits 16 4 (rawKind bytes) ++ space ++ nameShown bytes (nameOf bytes) ++ newline
 
@@ -47,6 +47,7 @@ unfoldable pub refusedLine : ℕ → ℕ → List ℕ
 refusedLine number position =
     0x72 ∷ 0x65 ∷ 0x66 ∷ 0x75 ∷ 0x73 ∷ 0x65 ∷ 0x64 ∷ [] ++ space ++ decimal number ++ space ++ decimal position ++ newline
 
+-- a line for each record
 unfoldable pub linesOf : List Rec → List ℕ
 linesOf [] = []
 linesOf (r ∷ rs) = lineOf (r .index) (r .bytes) ++ linesOf rs
@@ -59,6 +60,6 @@ lastLine (refuses e) = refusedLine (e .number) (e .position)
 unfoldable pub textOf : Reading → List ℕ
 textOf r = linesOf (r .recs) ++ lastLine (r .last .ending)
 
--- above 65,536 bytes: `refused 5 0`; walks from 4
+-- above 65,536 bytes `refused 5 0`; else it walks from 4
 unfoldable pub listingOf : List ℕ → List ℕ
 listingOf s = cond (ltb 65536 (length s)) (refusedLine 5 0) (textOf (readOf s 4))

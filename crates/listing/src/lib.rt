@@ -21,7 +21,7 @@ use symbol::name::Named;
 // The longest stream that is listed.
 pub const MAX_LISTED: usize = 65536;
 
-// Room for the text of any listing: a line is at most 13 times as long as its record.
+// Room for the listing of any stream: a line is at most 13 times as long as its record with the length field.
 pub const TEXT_ROOM: usize = 13 * MAX_LISTED;
 
 // Room for a stream, and for the byte that makes it too long. The `ensures` gives only the length, which lending it as a slice needs.

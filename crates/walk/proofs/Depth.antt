@@ -6,27 +6,24 @@ use mathlib.Core.List.{List, [], _∷_}
 use native.Mathlib.Omega.{arith}
 use lib.ListN.{length}
 use Rattle.constants.specs.Raw.{rawKind}
-use Rattle.iter.specs.Reading.{Rec, readOf}
-use Rattle.iter.specs.declared.Next.{Next}
-use Rattle.iter.specs.declared.Next.the-variants as N
+use Rattle.iter.specs.Reading.{Rec, Ending, ends, refuses, readOf}
 use Rattle.chain.proofs.Laws.{length-tail}
 use Rattle.walk.specs.declared.Turn.{Turn}
 use Rattle.walk.specs.declared.Turn.the-variants as T
-use Rattle.walk.specs.Walk.{turnOf, onTurn, walkLast, walkOn, walkFrom}
+use Rattle.walk.specs.Walk.{turnOf, onTurn, walkEnd, walkOn, walkFrom}
 use Rattle.walk.proofs.Walks.{push-room}
 
-last-depth : (n : Next) → length (walkLast n .stack) ≤ 64
-last-depth (N.End p) = omega arith
-last-depth (N.Refused e) = omega arith
-last-depth (N.Record kind index start len next) = omega arith
+end-depth : (e : Ending) → length (walkEnd e .stack) ≤ 64
+end-depth ends = omega arith
+end-depth (refuses e) = omega arith
 
-on-depth : (i : ℕ) (last : Next) (rs : List Rec) (st : List ℕ) → length st ≤ 64 → length (walkOn i last rs st .stack) ≤ 64
+on-depth : (i : ℕ) (ending : Ending) (rs : List Rec) (st : List ℕ) → length st ≤ 64 → length (walkOn i ending rs st .stack) ≤ 64
 unfolding walkOn
-on-depth i last [] st h = last-depth last
-on-depth i last (r ∷ rs) st h = by (on-depth i last rs) (turnOf i (r .index) (rawKind (r .bytes)) (length st)) refl
+on-depth i ending [] st h = end-depth ending
+on-depth i ending (r ∷ rs) st h = by (on-depth i ending rs) (turnOf i (r .index) (rawKind (r .bytes)) (length st)) refl
   where
-    by : ((st' : List ℕ) → length st' ≤ 64 → length (walkOn i last rs st' .stack) ≤ 64) → (t : Turn) →
-        turnOf i (r .index) (rawKind (r .bytes)) (length st) ≡ t → length (onTurn r st t (λ st'. walkOn i last rs st') .stack) ≤ 64
+    by : ((st' : List ℕ) → length st' ≤ 64 → length (walkOn i ending rs st' .stack) ≤ 64) → (t : Turn) →
+        turnOf i (r .index) (rawKind (r .bytes)) (length st) ≡ t → length (onTurn r st t (λ st'. walkOn i ending rs st') .stack) ≤ 64
     by ih T.Stay e = ih st h
     by ih T.Push e = ih (r .index ∷ st) (push-room i (r .index) (rawKind (r .bytes)) (length st) e)
     by ih T.Pop e = ih _ (omega (arith, length-tail st))
@@ -35,4 +32,4 @@ on-depth i last (r ∷ rs) st h = by (on-depth i last rs) (turnOf i (r .index) (
 
 pub walk-depth : (s : List ℕ) (start i : ℕ) → length (walkFrom i (readOf s start) [] .stack) ≤ 64
 unfolding walkFrom
-walk-depth s start i = on-depth i (readOf s start .last .step) (readOf s start .recs) [] (omega arith)
+walk-depth s start i = on-depth i (readOf s start .last .ending) (readOf s start .recs) [] (omega arith)

@@ -13,15 +13,13 @@ use Rattle.constants.specs.Kind.{nestingRole}
 use Rattle.constants.specs.Raw.{rawKind}
 use Rattle.constants.specs.declared.Role.{Role}
 use Rattle.constants.specs.declared.Role.the-variants.{Neither, Opens, Closes}
-use Rattle.iter.specs.Reading.{Rec, readOf}
-use Rattle.iter.specs.declared.Next.{Next}
-use Rattle.iter.specs.declared.Next.the-variants as N
+use Rattle.iter.specs.Reading.{Rec, Ending, ends, refuses, readOf}
 use Rattle.iter.proofs.Numbers.{last-number}
 use Rattle.chain.specs.declared.finding.Outcome.the-variants.{Refused}
 use Rattle.chain.proofs.Numbers.{OutAbove, finding-above}
 use Rattle.walk.specs.declared.Turn.{Turn}
 use Rattle.walk.specs.declared.Turn.the-variants as T
-use Rattle.walk.specs.Walk.{turnOfRole, turnOf, onTurn, walkLast, walkOn, walkFrom, walkOf}
+use Rattle.walk.specs.Walk.{turnOfRole, turnOf, onTurn, walkEnd, walkOn, walkFrom, walkOf}
 
 abbrev TurnAbove : Turn → Type 0
 TurnAbove T.Stay = Unit
@@ -52,19 +50,18 @@ turn-above i index kind depth = go (eqb index i) (ltb i index)
     go false true = omega arith
     go false false = role-above (nestingRole kind) depth
 
-module _ (i : ℕ) (last : Next) (step : (e : Refusal) → last ≡ N.Refused e → 0 < e .number) where
-  last-above : (n : Next) → last ≡ n → OutAbove (walkLast n .out)
-  last-above (N.End p) q = omega arith
-  last-above (N.Refused e) q = step e q
-  last-above (N.Record kind index start len next) q = omega arith
+module _ (i : ℕ) (ending : Ending) (last : (e : Refusal) → ending ≡ refuses e → 0 < e .number) where
+  end-above : (x : Ending) → ending ≡ x → OutAbove (walkEnd x .out)
+  end-above ends q = omega arith
+  end-above (refuses e) q = last e q
 
-  walk-above : (rs : List Rec) (st : List ℕ) → OutAbove (walkOn i last rs st .out)
+  walk-above : (rs : List Rec) (st : List ℕ) → OutAbove (walkOn i ending rs st .out)
   unfolding walkOn
-  walk-above [] st = last-above last refl
+  walk-above [] st = end-above ending refl
   walk-above (r ∷ rs) st =
       by (walk-above rs) (turnOf i (r .index) (rawKind (r .bytes)) (length st)) (turn-above i (r .index) (rawKind (r .bytes)) (length st))
     where
-      by : ((st' : List ℕ) → OutAbove (walkOn i last rs st' .out)) → (t : Turn) → TurnAbove t → OutAbove (onTurn r st t (λ st'. walkOn i last rs st') .out)
+      by : ((st' : List ℕ) → OutAbove (walkOn i ending rs st' .out)) → (t : Turn) → TurnAbove t → OutAbove (onTurn r st t (λ st'. walkOn i ending rs st') .out)
       by ih T.Stay h = ih _
       by ih T.Push h = ih _
       by ih T.Pop h = ih _
@@ -75,4 +72,4 @@ pub walk-number : (s : List ℕ) (start i : ℕ) (e : Refusal) → walkOf s star
 unfolding walkOf walkFrom
 walk-number s start i e q =
     subst OutAbove q
-    (finding-above (walkFrom i (readOf s start) []) (walk-above i (readOf s start .last .step) (last-number s start) (readOf s start .recs) []))
+    (finding-above (walkFrom i (readOf s start) []) (walk-above i (readOf s start .last .ending) (last-number s start) (readOf s start .recs) []))

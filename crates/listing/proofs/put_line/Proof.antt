@@ -3,7 +3,6 @@
 use borrow.Author.Needs.{needs}
 use mathlib.Core.Path.{ap}
 use denote.Ref.{now}
-use Prim.Native.Nat.{ℕ}
 use native.Mathlib.Omega.{arith}
 use Rattle.io.specs.Digits.{digits}
 use Rattle.listing.specs.Listing.{lineOf}

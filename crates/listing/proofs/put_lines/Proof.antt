@@ -41,7 +41,8 @@ returns-2 c =
 -- the record that the step yielded
 yields : (c : tie.After-index Inv-loop μ-loop) →
     stepOf (c .before .before .before .before .before .args .s .now) (c .before .before .before .loop .at)
-    ≡ Record (c .index .given .0 .0) (c .index .given .0 .1 .0) (c .index .given .0 .1 .1 .0) (c .index .given .0 .1 .1 .1 .0) (c .index .given .0 .1 .1 .1 .1 .0)
+    ≡ Record (c .index .given .0 .0) (c .index .given .0 .1 .0) (c .index .given .0 .1 .1 .0)
+    (c .index .given .0 .1 .1 .1 .0) (c .index .given .0 .1 .1 .1 .1 .0)
 yields c = sym (c .before .before .step .ensures) ∙ c .index .given .1
 
 sub-put-line : tie.Need-sub-put-line Inv-loop μ-loop

@@ -9,19 +9,31 @@ use Rattle.listing.proofs.put_refused.Statement.{statement}
 use Rattle.listing.proofs.put_refused.Tie as tie
 
 put-requires : tie.Need-put-requires
-put-requires c κs = let a = c .before .before .before .args in omega (arith, refused-length (a .number) (a .position))
+put-requires c κs =
+    let a = c .before .before .before .args in
+    omega (arith, refused-length (a .number) (a .position))
 
 put-decimal-requires : tie.Need-put-decimal-requires
-put-decimal-requires c κs = let a = c .before .before .before .before .before .before .before .args in omega (arith, refused-length (a .number) (a .position))
+put-decimal-requires c κs =
+    let a = c .before .before .before .before .before .before .before .args in
+    omega (arith, refused-length (a .number) (a .position))
 
 put-requires-2 : tie.Need-put-requires-2
-put-requires-2 c κs = let a = c .before .before .before .before .before .before .before .before .before .before .before .before .args in omega (arith, refused-length (a .number) (a .position))
+put-requires-2 c κs =
+    let a = c .before .before .before .before .before .before .before .before .before .before .before .before .args in
+    omega (arith, refused-length (a .number) (a .position))
 
 put-decimal-requires-2 : tie.Need-put-decimal-requires-2
-put-decimal-requires-2 c κs = let a = c .before .before .before .before .before .before .before .before .before .before .before .before .before .before .before .before .args in omega (arith, refused-length (a .number) (a .position))
+put-decimal-requires-2 c κs =
+    let number = c .before .before .before .before .before .before .before .before in
+    let a = number .before .before .before .before .before .before .before .before .args in
+    omega (arith, refused-length (a .number) (a .position))
 
 put-requires-3 : tie.Need-put-requires-3
-put-requires-3 c κs = let a = c .before .before .before .before .before .before .before .before .before .before .before .before .before .before .before .before .before .before .before .before .before .args in omega (arith, refused-length (a .number) (a .position))
+put-requires-3 c κs =
+    let number = c .before .before .before .before .before .before .before .before .before .before .before .before .before in
+    let a = number .before .before .before .before .before .before .before .before .args in
+    omega (arith, refused-length (a .number) (a .position))
 
 returns : tie.Need-returns
 unfolding refusedLine

@@ -29,7 +29,8 @@ loop-again c =
     let l = c .before .before .before .loop in
     let name = c .before .before .before .before .before .before .args .name .now in
     let is = c .shown .ensures ∙ sym (List·getD-map shownByte name (l .i) 0) in
-    (search needs, search needs, one-more (map shownByte name) _ _ _ _ _ (shownByte 0) (omega arith) (omega (arith, length-map name shownByte)) is (l .inv .2))
+    let as-long = length-map name shownByte in
+    (search needs, search needs, one-more (map shownByte name) _ _ _ _ _ (shownByte 0) (omega arith) (omega arith) is (l .inv .2))
 
 returns : tie.Need-returns Inv-loop μ-loop
 returns c = all-put _ _ _ _ _ (omega (arith, length-map (c .before .before .before .before .args .name .now) shownByte)) (c .before .loop .inv .2)
