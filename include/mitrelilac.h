@@ -129,7 +129,8 @@ uint32_t mitrelilac_register_entry(const uint8_t *record, size_t length, size_t 
  * The nesting check: reads the stream from `start` to its end and looks whether every scope is closed where its opener's end field
  * says and lies in the scope that its parent field names. On a stream that passes, with the same start, mitrelilac_walk and
  * mitrelilac_jump give the same scopes at every position where a record begins, and both refuse with 14 at every other; and at an
- * opener mitrelilac_climb gives these scopes in opposite order. This is proved.
+ * opener mitrelilac_climb gives these scopes in opposite order. This is proved, of the numbers that the calls return and the words that
+ * they write (crates/mitrelilac/specs/Exported.antt).
  *
  *     out[0]  records read, fillers not counted
  *     out[1]  their bytes, lengths included
