@@ -7,11 +7,11 @@ use crate::list::Question;
 use crate::random::Random;
 use crate::{numbers, records, scopes, steps};
 
-pub const GROUPS: &str = "constants, numbers, records, steps, nesting, real";
+pub const GROUPS: &str = "constants, numbers, records, steps, nesting, real, signed";
 
 pub type Questions = Box<dyn Iterator<Item = Question>>;
 
-/// A group's questions; the constants are all there are of them, whatever the count.
+/// A group's questions; the constants and the signed ones are all there are of them, whatever the count.
 pub fn questions(group: &str, count: u64, seed: u64) -> Option<Questions> {
     let count = count as usize;
     let random = Random(seed);
@@ -22,6 +22,7 @@ pub fn questions(group: &str, count: u64, seed: u64) -> Option<Questions> {
         "steps" => Some(mixed(steps::grid, steps::question, count, random)),
         "nesting" => Some(mixed(scopes::grid, scopes::question, count, random)),
         "real" => Some(mixed(|_| Vec::new(), scopes::real_question, count, random)),
+        "signed" => Some(Box::new(records::signed())),
         _ => None,
     }
 }

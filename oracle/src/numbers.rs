@@ -18,7 +18,7 @@ pub fn grid(_: &mut Random) -> Vec<Question> {
 }
 
 /// All ones, the least signed value of this width, and bytes that all differ.
-fn fills(length: u8) -> [Vec<u8>; 3] {
+pub fn fills(length: u8) -> [Vec<u8>; 3] {
     let mut least = vec![0; length.into()];
     if let Some(last) = least.last_mut() {
         *last = 0x80;

@@ -239,6 +239,21 @@ fn constants(questions: &mut Vec<Question>) {
     }
 }
 
+/// The constant of document 01's P10 with -1 and with the least value at 16, 32 and 64 bits.
+pub fn signed() -> impl Iterator<Item = Question> {
+    let constants = |(prefix, width): (u16, u8)| {
+        let [ones, least, _] = numbers::fills(width);
+        [ones, least].map(|value| {
+            let head = [0x07, 0x11, 0x00, 0x10, 0x00, 0x00];
+            let record = [&head[..], &prefix.to_le_bytes(), &value, b"k\0"].concat();
+            Question::new(Op::Decode, 0, record)
+        })
+    };
+    [(0x8001, 2), (0x8003, 4), (0x8009, 8)]
+        .into_iter()
+        .flat_map(constants)
+}
+
 const LONGEST: usize = 65_535;
 
 /// Records as long as they may be, and longer ones.
