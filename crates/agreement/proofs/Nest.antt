@@ -9,14 +9,14 @@ use Rattle.common.specs.declared.Refusal.{Refusal}
 use Rattle.constants.specs.declared.Role.the-variants.{Neither, Opens, Closes}
 use Rattle.constants.specs.Raw.{nestingRoleOf}
 use Rattle.iter.specs.Step.{scanOf}
-use Rattle.iter.specs.Reading.{Rec, Last, ends, refuses, Reading, readOf}
+use Rattle.iter.specs.Reading.{ends, refuses, Reading, readOf}
 use Rattle.iter.specs.declared.Next.{Next}
 use Rattle.iter.specs.declared.Next.the-variants as N
 use Rattle.iter.proofs.Reading.{read-by}
 use Rattle.links.specs.Links.{linksOf}
 use Rattle.links.specs.declared.Links.the-variants.{Read}
 use Rattle.check_nesting.specs.declared.stack.Open.{Open}
-use Rattle.check_nesting.specs.Act.{innerIndex}
+use Rattle.check_nesting.specs.Stack.{innerIndex}
 use Rattle.check_nesting.specs.Nesting as R
 use Rattle.check_nesting.specs.Nesting.{Nests}
 use Rattle.check_nesting.proofs.Nesting.{NestsIn}

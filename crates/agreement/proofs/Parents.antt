@@ -19,7 +19,7 @@ use Rattle.constants.specs.Raw.{nestingRoleOf}
 use Rattle.links.specs.Links.{linksOf}
 use Rattle.links.specs.declared.Links.the-variants.{Read}
 use Rattle.check_nesting.specs.declared.stack.Open.{Open}
-use Rattle.check_nesting.specs.Act.{innerIndex}
+use Rattle.check_nesting.specs.Stack.{innerIndex}
 use Rattle.climb.specs.declared.opener.Opener.the-variants.{Parent}
 use Rattle.climb.specs.Opener.{openerOn, openerOf}
 use Rattle.climb.specs.Climb.{reachedBy, climbBy, climbOn, climbOf}

@@ -1,14 +1,13 @@
--- A position more, a position less, and the last position of the chain of a stack.
+-- A position more and a position less in the chain of a stack.
 -- Assumes nothing.
-use mathlib.Core.Path.{_≡_, refl, sym, _∙_, ap}
+use mathlib.Core.Path.{_≡_, sym, _∙_, ap}
 use mathlib.Core.List.{List, [], _∷_, _++_, tail, reverse, reverse-cons, append-assoc}
 use Prim.Native.Nat.{ℕ, suc, _+_, _-_, _≤_, _<_}
 use native.Mathlib.Omega.{arith}
 use native.Mathlib.Numerals.{add-one}
-use lib.ListN.{length, set, getD, replicate, length-reverse}
-use lib.Seq.{set-at, getD-at}
-use borrow.Author.Tests.{ne-eqb}
-use Rattle.chain.specs.Chain.{chainOf, topOf}
+use lib.ListN.{length, set, replicate, length-reverse}
+use lib.Seq.{set-at}
+use Rattle.chain.specs.Chain.{chainOf}
 use Rattle.chain.specs.declared.Chain.{Chain}
 
 -- one position more, behind the others
@@ -64,20 +63,6 @@ pop-stack (x ∷ st) e h =
     ap popped e
     ∙ rw (sub-one-suc (length st))
     (λ i. record { at = (at-stack st x 0 _ (places x st) ∙ unused st (let l : length st < 64 = omega arith in l)) i; depth = length st })
-
--- the last position of a chain
-abbrev pub top : Chain → ℕ
-top c = topOf (c .at) (c .depth)
-
-pub top-stack : (st : List ℕ) (x : ℕ) → top (chainOf (x ∷ st)) ≡ x
-unfolding topOf chainOf
-top-stack st x =
-    rw (ne-eqb (suc (length st)) 0 (omega arith), sub-one-suc (length st))
-    (ap (λ (l : List ℕ). getD l (length st) 0) (places x st) ∙ getD-at (reverse st) x _ 0 (length st) (length-reverse st))
-
-pub top-none : top (chainOf []) ≡ 0
-unfolding topOf chainOf
-top-none = refl
 
 pub length-tail : {A : Type 0} (st : List A) → length (tail st) ≤ length st
 length-tail [] = omega arith

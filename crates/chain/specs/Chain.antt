@@ -1,15 +1,9 @@
 -- A chain holds up to 64 positions and a count; unused places are 0 (document 01).
 use Prim.Native.Nat.{ℕ, _-_}
 use mathlib.Core.List.{List, _++_, reverse}
-use mathlib.Core.Bool.{cond}
-use lib.ListN.{length, getD, replicate}
-use lib.Dec.{eqb}
+use lib.ListN.{length, replicate}
 use Rattle.chain.specs.declared.Chain.{Chain}
 
 -- The chain of a list of positions, which it lists the other way round: a stack, whose innermost position comes first, is listed outermost first.
 unfoldable pub chainOf : List ℕ → Chain
 chainOf st = record { at = reverse st ++ replicate (64 - length st) 0; depth = length st }
-
--- the last of so many positions, 0 where there is none
-unfoldable pub topOf : List ℕ → ℕ → ℕ
-topOf at depth = cond (eqb depth 0) 0 (getD at (depth - 1) 0)

@@ -11,7 +11,6 @@ use lib.Dec.{leb, eqb}
 use native.Mathlib.Numerals.{add-one}
 use borrow.Author.Tests.{leb-false, eq-eqb, ne-eqb}
 use Rattle.common.specs.Reader.{refusal}
-use Rattle.chain.specs.Chain.{topOf}
 use Rattle.constants.specs.declared.Role.{Role}
 use Rattle.constants.specs.declared.Role.the-variants.{Neither, Opens, Closes}
 use Rattle.constants.specs.Raw.{nestingRoleOf}
@@ -24,7 +23,8 @@ use Rattle.check_nesting.specs.declared.act.Act.{Act}
 use Rattle.check_nesting.specs.declared.act.Act.the-variants as A
 use Rattle.check_nesting.specs.declared.Counts.{Counts}
 use Rattle.check_nesting.specs.declared.Checked.the-variants as C
-use Rattle.check_nesting.specs.Act.{innerIndex, openOf, closeOf, actOfRole, actOf, stackOf, recOf}
+use Rattle.check_nesting.specs.Stack.{innerIndex, stackOf, topOf}
+use Rattle.check_nesting.specs.Act.{openOf, closeOf, actOfRole, actOf, recOf}
 use Rattle.check_nesting.specs.Check.{onEnd, answerBy}
 
 -- the answer at End, by how many are open
@@ -37,6 +37,17 @@ pub some-left : (n : Counts) (st : List Open) (depth inner : ℕ) → length st 
 some-left n [] depth inner l d i = absurd (d (sym l))
 some-left n (o ∷ st) depth inner l d i = ap (λ (x : ℕ). C.Refused (refusal 12 x 0)) (sym i)
 
+-- the last place, by its number
+pub top-none : (at : List ℕ) (d : ℕ) → d ≡ 0 → 0 ≡ topOf at d
+unfolding topOf
+top-none at zero e = refl
+top-none at (suc d) e = absurd (omega arith)
+
+pub top-last : (at : List ℕ) (d : ℕ) → ¬ (d ≡ 0) → getD at (d - 1) 0 ≡ topOf at d
+unfolding topOf
+top-last at zero e = absurd (e refl)
+top-last at (suc d) e = ap (λ (k : ℕ). getD at k 0) (let q : suc d - 1 ≡ d = omega arith in q)
+
 -- a stack in two arrays
 module _ (opens ends-of : List ℕ) where
   pub stack-length : (d : ℕ) → length (stackOf opens ends-of d) ≡ d
@@ -47,13 +58,13 @@ module _ (opens ends-of : List ℕ) where
   pub stack-inner : (d : ℕ) → innerIndex (stackOf opens ends-of d) ≡ topOf opens d
   unfolding stackOf topOf
   stack-inner zero = refl
-  stack-inner (suc d) = let e : suc d - 1 ≡ d = omega arith in rw (ne-eqb (suc d) 0 (omega arith), e)
+  stack-inner (suc d) = refl
 
   -- the act at a closer, by the number of open openers and the innermost's end field
   stack-close : (index d : ℕ) → closeOf index (stackOf opens ends-of d) ≡ cond (eqb d 0) (A.Refused (refusal 10 index 0)) (cond (eqb (topOf ends-of d) index) A.Pop (A.Refused (refusal 11 index 0)))
   unfolding stackOf topOf
   stack-close index zero = refl
-  stack-close index (suc d) = let e : suc d - 1 ≡ d = omega arith in rw (ne-eqb (suc d) 0 (omega arith), e)
+  stack-close index (suc d) = rw (ne-eqb (suc d) 0 (omega arith))
 
   pub close-none : (index d : ℕ) → d ≡ 0 → A.Refused (refusal 10 index 0) ≡ closeOf index (stackOf opens ends-of d)
   close-none index d e = rw (stack-close index d, eq-eqb d 0 e)

@@ -1,11 +1,11 @@
 -- Laws of the check: what a turn of the loop does to the verdict that is left and to the counts.
 -- Assumes nothing.
 use mathlib.Core.Path.{_≡_, refl, sym, _∙_, ap, subst}
-use mathlib.Core.List.{List, [], _∷_, tail}
+use mathlib.Core.List.{List, []}
 use mathlib.Core.Bool.{Bool, true, false, cond}
 use Prim.Native.Nat.{ℕ, _+_, _-_, _≤_, _<_}
 use native.Mathlib.Omega.{arith}
-use lib.ListN.{length, take, drop, set, replicate, length-set, length-replicate}
+use lib.ListN.{length, take, drop, set, replicate, length-set}
 use lib.Dec.{ltb}
 use borrow.Author.Tests.{ltb-true}
 use Rattle.common.specs.declared.Refusal.{Refusal}
@@ -16,7 +16,7 @@ use Rattle.iter.specs.declared.Next.{Next}
 use Rattle.iter.specs.declared.Next.the-variants as N
 use Rattle.iter.proofs.Reading.{Stepped, step-fits, read-by, Fillers, fillers-of}
 use Rattle.iter.proofs.Records.{bytes-length, fillers-to}
-use Rattle.chain.specs.Chain.{chainOf, topOf}
+use Rattle.chain.specs.Chain.{chainOf}
 use Rattle.chain.specs.declared.Chain.{Chain}
 use Rattle.chain.proofs.Laws.{pushed, popped}
 use Rattle.check_nesting.specs.declared.stack.Open.{Open}
@@ -25,8 +25,9 @@ use Rattle.check_nesting.specs.declared.act.Act.the-variants as A
 use Rattle.check_nesting.specs.declared.Counts.{Counts}
 use Rattle.check_nesting.specs.declared.Checked.{Checked}
 use Rattle.check_nesting.specs.declared.Checked.the-variants as C
-use Rattle.check_nesting.specs.Act.{innerIndex, actOf, stackOf, recOf}
-use Rattle.check_nesting.specs.Check.{Verdict, Passes, Refused, onAct, onEnd, verdictOn, verdictFrom, countsOf, answerBy, checkOf}
+use Rattle.check_nesting.specs.Stack.{innerIndex, stackOf, topOf}
+use Rattle.check_nesting.specs.Act.{actOf, recOf}
+use Rattle.check_nesting.specs.Check.{Verdict, Refused, onAct, onEnd, verdictOn, verdictFrom, countsOf, answerBy, checkOf}
 use Rattle.check_nesting.proofs.Acts.{stack-length, stack-inner, stack-push, stack-pop, act-bare, Pushes, Pops, asks}
 use Rattle.check_nesting.proofs.Running.{total, passed, counted, opened, none, total-first, total-last, total-stay, total-pop, total-push, opened-deep}
 

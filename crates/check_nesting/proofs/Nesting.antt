@@ -1,6 +1,6 @@
 -- The check passes exactly where reading ends at End and its records nest.
 -- Assumes nothing.
-use mathlib.Core.Path.{_≡_, refl, sym, _∙_, ap}
+use mathlib.Core.Path.{_≡_, refl, _∙_, ap}
 use mathlib.Core.List.{List, [], _∷_}
 use mathlib.Core.Bool.{Bool, true, false, cond}
 use Prim.Native.Nat.{ℕ, _<_}
@@ -13,7 +13,7 @@ use Rattle.common.specs.declared.Refusal.{Refusal}
 use Rattle.constants.specs.declared.Role.{Role}
 use Rattle.constants.specs.declared.Role.the-variants.{Neither, Opens, Closes}
 use Rattle.constants.specs.Raw.{nestingRoleOf}
-use Rattle.iter.specs.Reading.{Rec, Ending, ends, refuses, Reading, readOf}
+use Rattle.iter.specs.Reading.{Rec, Ending, ends, refuses, readOf}
 use Rattle.links.specs.Links.{linksOf}
 use Rattle.links.specs.declared.Links.{Links}
 use Rattle.links.specs.declared.Links.the-variants as K
@@ -22,7 +22,8 @@ use Rattle.check_nesting.specs.declared.act.Act.{Act}
 use Rattle.check_nesting.specs.declared.act.Act.the-variants as A
 use Rattle.check_nesting.specs.declared.Counts.{Counts}
 use Rattle.check_nesting.specs.declared.Checked.the-variants as C
-use Rattle.check_nesting.specs.Act.{innerIndex, openOf, closeOf, actOfRole, actOf}
+use Rattle.check_nesting.specs.Stack.{innerIndex}
+use Rattle.check_nesting.specs.Act.{openOf, closeOf, actOfRole, actOf}
 use Rattle.check_nesting.specs.Check.{Verdict, Passes, Refused, onAct, onEnd, verdictOn, verdictFrom, countsOf, answerBy, checkOf}
 use Rattle.check_nesting.specs.Nesting.{Nests, done, passes, opens, closes}
 

@@ -20,7 +20,8 @@ use Rattle.iter.proofs.Numbers.{last-number}
 use Rattle.check_nesting.specs.declared.stack.Open.{Open}
 use Rattle.check_nesting.specs.declared.act.Act.{Act}
 use Rattle.check_nesting.specs.declared.act.Act.the-variants as A
-use Rattle.check_nesting.specs.Act.{innerIndex, openOf, closeOf, actOfRole, actOf}
+use Rattle.check_nesting.specs.Stack.{innerIndex}
+use Rattle.check_nesting.specs.Act.{openOf, closeOf, actOfRole, actOf}
 use Rattle.check_nesting.specs.declared.Counts.{Counts}
 use Rattle.check_nesting.specs.declared.Checked.{Checked}
 use Rattle.check_nesting.specs.declared.Checked.the-variants as C

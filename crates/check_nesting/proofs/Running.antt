@@ -8,7 +8,7 @@ use native.Mathlib.Omega.{arith}
 use native.Mathlib.Nat.{zero-add, add-zero}
 use lib.ListN.{length}
 use lib.Dec.{ltb}
-use borrow.Author.Tests.{ltb-true, ltb-false, lt-ltb, le-ltb}
+use borrow.Author.Tests.{ltb-true, ltb-false, le-ltb}
 use Rattle.constants.specs.Kind.{opens}
 use Rattle.constants.specs.Raw.{nestingRoleOf}
 use Rattle.constants.specs.declared.Role.{Role}

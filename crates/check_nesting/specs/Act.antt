@@ -1,8 +1,8 @@
 -- What the check does with a record, with a stack of open openers (document 01, "Check").
-use Prim.Native.Nat.{ℕ, zero, suc}
+use Prim.Native.Nat.{ℕ}
 use mathlib.Core.List.{List, [], _∷_}
 use mathlib.Core.Bool.{cond}
-use lib.ListN.{length, getD}
+use lib.ListN.{length}
 use lib.Dec.{leb, eqb}
 use Rattle.common.specs.Reader.{refusal}
 use Rattle.constants.specs.declared.Role.{Role}
@@ -15,11 +15,7 @@ use Rattle.links.specs.declared.Links.the-variants as K
 use Rattle.check_nesting.specs.declared.stack.Open.{Open}
 use Rattle.check_nesting.specs.declared.act.Act.{Act}
 use Rattle.check_nesting.specs.declared.act.Act.the-variants as A
-
--- A stack lists the open openers, the innermost first. The innermost open index, 0 if none:
-abbrev pub innerIndex : List Open → ℕ
-innerIndex [] = 0
-innerIndex (o ∷ st) = o .index
+use Rattle.check_nesting.specs.Stack.{innerIndex}
 
 -- Opener: 6 if decode refuses it, 7 at position 0, 8 if its parent field is not the innermost open index (0 if none), 9 if it would be the 65th.
 -- These carry the record's index.
@@ -43,11 +39,6 @@ actOfRole Neither r st = A.Stay
 
 unfoldable pub actOf : Rec → List Open → Act
 actOf r st = actOfRole (nestingRoleOf (r .bytes)) r st
-
--- the stack that so many places of two arrays hold, of indexes and of end fields
-unfoldable pub stackOf : List ℕ → List ℕ → ℕ → List Open
-stackOf opens ends zero = []
-stackOf opens ends (suc d) = record { index = getD opens d 0; end = getD ends d 0 } ∷ stackOf opens ends d
 
 -- a record by its index and its bytes (an act does not look at what was passed over)
 abbrev pub recOf : ℕ → List ℕ → Rec

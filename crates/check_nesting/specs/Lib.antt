@@ -1,3 +1,4 @@
-pub mod Check
+pub mod Stack
 pub mod Act
+pub mod Check
 pub mod Nesting

@@ -10,7 +10,7 @@ use Rattle.iter.specs.Reading.{Rec}
 use Rattle.links.specs.Links.{linksOf}
 use Rattle.links.specs.declared.Links.the-variants.{Read}
 use Rattle.check_nesting.specs.declared.stack.Open.{Open}
-use Rattle.check_nesting.specs.Act.{innerIndex}
+use Rattle.check_nesting.specs.Stack.{innerIndex}
 
 -- Records nest, with a stack of openers open in front of them: they close these, and each opener among them, innermost first.
 pub data Nests : List Rec → List Open → Type 0 where

@@ -7,7 +7,7 @@ ghost use mathlib.Core.List.{List};
 ghost use lib.ListN.{length};
 ghost use Rattle.iter.specs.Reading.{ends};
 ghost use Rattle.check_nesting.specs.declared.stack.Open.{Open};
-ghost use Rattle.check_nesting.specs.Act.{innerIndex};
+ghost use Rattle.check_nesting.specs.Stack.{innerIndex};
 ghost use Rattle.check_nesting.specs.Check.{larger, onEnd, answerBy, checkOf, addsUp};
 use act::Act;
 use act::act_at;

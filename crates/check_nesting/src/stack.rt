@@ -3,7 +3,8 @@ ghost use mathlib.Core.Path.{_≡_};
 ghost use mathlib.Core.List.{[]};
 ghost use Prim.Native.Nat.{_+_, _-_, _<_, _≤_};
 ghost use lib.ListN.{set, replicate};
-ghost use Rattle.chain.specs.Chain.{chainOf, topOf};
+ghost use Rattle.chain.specs.Chain.{chainOf};
+ghost use Rattle.check_nesting.specs.Stack.{topOf};
 use chain::Chain;
 
 // An open opener.

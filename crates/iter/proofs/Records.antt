@@ -17,7 +17,7 @@ use Rattle.constants.specs.Kind.{isFiller, nestingRole}
 use Rattle.constants.specs.Raw.{rawKind, nestingRoleOf}
 use Rattle.constants.specs.declared.Role.{Role}
 use Rattle.iter.specs.Step.{frameAt, plain, onKind, onFrame, scanFrom, within, scanOf}
-use Rattle.iter.specs.Reading.{Rec, Ending, ends, refuses, Reading, recAt, ended, more, readOf, Some, Begins, hasIndex, beginsAt}
+use Rattle.iter.specs.Reading.{Rec, ends, refuses, Reading, recAt, ended, more, readOf, Some, Begins, hasIndex, beginsAt}
 use Rattle.iter.specs.declared.Frame.{Frame}
 use Rattle.iter.specs.declared.Frame.the-variants as F
 use Rattle.iter.specs.declared.Next.{Next}
