@@ -1,4 +1,5 @@
--- What document 01 says of what the calls return, of what C receives: the numbers that the exported functions return and the words of `out` after it.
+-- What document 01 says of several answers together, stated of what C receives: the numbers that the exported functions return, and the
+-- words of `out` afterwards.
 use Prim.Native.Nat.{ℕ, _+_, _-_, _≤_}
 use mathlib.Core.Path.{_≡_}
 use mathlib.Core.List.{List, [], _∷_}
@@ -16,7 +17,7 @@ pub record Call : Type 0 where
 abbrev pub call : ℕ → List ℕ → Call
 call returned out = record { returned = returned; out = out }
 
--- Check: the two byte sums add up to stream length minus start, the start brought within the stream.
+-- Check, where it returned 0: the two byte sums, out[1] and out[3], add up to stream length minus start, the start brought within the stream.
 abbrev pub SumsUp : List ℕ → ℕ → Call → Type 0
 SumsUp s start check = check .returned ≡ 0 → getD (check .out) 1 0 + getD (check .out) 3 0 ≡ length s - within s start
 

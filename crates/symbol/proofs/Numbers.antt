@@ -7,7 +7,7 @@ use mathlib.Core.Bool.{Bool, true, false, cond}
 use native.Mathlib.Omega.{arith}
 use lib.ListN.{length}
 use lib.Dec.{ltb}
-use Rattle.common.specs.Reader.{Read, value, refused, refusal, _>>=_, refuse, u16}
+use Rattle.common.specs.Reader.{Read, value, refused, refusal, _>>=_, u16}
 use Rattle.common.specs.declared.Refusal.{Refusal}
 use Rattle.common.proofs.Numbers.{Above, Numbered, above-number, refuse-numbered, then-numbered, uint-numbered, numbers}
 use Rattle.names.proofs.Numbers.{cstring-numbered, symbol-name-numbered}
