@@ -16,9 +16,9 @@ use Rattle.chain.specs.declared.finding.Outcome.the-variants.{Answer, Refused}
 use Rattle.walk.proofs.Walks.{walkAt}
 use Rattle.jump.specs.Jump.{jumpFrom}
 use Rattle.check_nesting.specs.declared.stack.Open.{Open}
-use Rattle.agreement.proofs.Nest.{openAt, NestsAt, First, done, passes, opens, closes, nests-ind}
+use Rattle.agreement.proofs.Nest.{openAt, indexes, length-indexes, NestsAt, First, done, passes, opens, closes, nests-ind}
 use Rattle.agreement.proofs.Turns.{same-out, same-stack, same-count, walk-end, jump-end, walk-same, walk-past, jump-same, jump-past, walk-plain, jump-plain, walk-open, jump-push, jump-over}
-use Rattle.agreement.proofs.Skip.{indexes, length-indexes, through-one, Skip, skip}
+use Rattle.agreement.proofs.Skip.{through-one, Skip, skip}
 
 -- where an index k lies, seen from i
 pub data Order (k i : ℕ) : Type 0 where

@@ -26,8 +26,7 @@ use Rattle.climb.specs.declared.opener.Opener.the-variants.{Parent}
 use Rattle.check_nesting.specs.declared.stack.Open.{Open}
 use Rattle.check_nesting.proofs.Nesting.{good-nests}
 use Rattle.agreement.specs.Agreement.{OpenerBegins, BothAnswer, ClimbsThem, Agreement, Condition3, answersOf}
-use Rattle.agreement.proofs.Nest.{bytesAt, openAt, NestsAt, First, done, passes, opens, closes, nests-ind}
-use Rattle.agreement.proofs.Skip.{indexes, length-indexes}
+use Rattle.agreement.proofs.Nest.{bytesAt, openAt, indexes, length-indexes, NestsAt, First, done, passes, opens, closes, nests-ind}
 use Rattle.agreement.proofs.Turns.{same-out, same-stack, walk-end, walk-same, walk-past, walk-plain, walk-open, walk-close}
 use Rattle.agreement.proofs.Agree.{Order, less, same, more, order, Agree, both, none, agree}
 use Rattle.agreement.proofs.Parents.{opener-found, Up, top, over, up-later, up-out, climb-opener, reversed-stack}

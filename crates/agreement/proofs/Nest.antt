@@ -29,6 +29,15 @@ bytesAt s from len = take len (drop from s)
 abbrev pub openAt : ℕ → ℕ → Open
 openAt index end = record { index = index; end = end }
 
+-- the indexes of a stack
+abbrev pub indexes : List Open → List ℕ
+indexes [] = []
+indexes (o ∷ st) = o .index ∷ indexes st
+
+pub length-indexes : (st : List Open) → length (indexes st) ≡ length st
+length-indexes [] = refl
+length-indexes (o ∷ st) = ap suc (length-indexes st)
+
 -- the records from a position on nest in the stack
 abbrev pub NestsAt : List ℕ → ℕ → List Open → Type 0
 NestsAt s p st = NestsIn (readOf s p .last .ending) (readOf s p .recs) st

@@ -25,8 +25,7 @@ use Rattle.climb.specs.Opener.{openerOn, openerOf}
 use Rattle.climb.specs.Climb.{reachedBy, climbBy, climbOn, climbOf}
 use Rattle.climb.proofs.Climbs.{climb-top, climb-below}
 use Rattle.agreement.specs.Agreement.{reversed}
-use Rattle.agreement.proofs.Nest.{bytesAt}
-use Rattle.agreement.proofs.Skip.{indexes}
+use Rattle.agreement.proofs.Nest.{bytesAt, indexes}
 
 -- an opener that a step yields is found at its own index, with its parent field
 pub opener-found : (s : List ℕ) (p index from len next parent end : ℕ) {kind : ℕ} → scanOf s p .step ≡ N.Record kind index from len next →

@@ -16,17 +16,8 @@ use Rattle.constants.specs.Raw.{nestingRoleOf}
 use Rattle.chain.specs.Finding.{Walk, seen}
 use Rattle.walk.proofs.Walks.{walkAt}
 use Rattle.check_nesting.specs.declared.stack.Open.{Open}
-use Rattle.agreement.proofs.Nest.{bytesAt, openAt, NestsAt, First, done, passes, opens, closes, nests-ind}
+use Rattle.agreement.proofs.Nest.{bytesAt, openAt, indexes, length-indexes, NestsAt, First, done, passes, opens, closes, nests-ind}
 use Rattle.agreement.proofs.Turns.{same-out, same-stack, same-count, walk-plain, walk-open, walk-close}
-
--- the indexes of a stack
-abbrev pub indexes : List Open → List ℕ
-indexes [] = []
-indexes (o ∷ st) = o .index ∷ indexes st
-
-pub length-indexes : (st : List Open) → length (indexes st) ≡ length st
-length-indexes [] = refl
-length-indexes (o ∷ st) = ap suc (length-indexes st)
 
 -- the walk w ends as v does, and visits more records
 pub record Through (w v : Walk) : Type 0 where

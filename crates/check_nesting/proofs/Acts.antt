@@ -76,28 +76,32 @@ module _ (opens ends-of : List ℕ) where
   close-pop index d e w = rw (stack-close index d, ne-eqb d 0 e, eq-eqb (topOf ends-of d) index w)
 
 -- what is stored behind the open openers does not change them
-above : (opens ends-of : List ℕ) (d k x y : ℕ) → d ≤ k → stackOf (set opens k x) (set ends-of k y) d ≡ stackOf opens ends-of d
+above-opens : (opens ends-of : List ℕ) (d k x : ℕ) → d ≤ k → stackOf (set opens k x) ends-of d ≡ stackOf opens ends-of d
 unfolding stackOf
-above opens ends-of zero k x y h = refl
-above opens ends-of (suc d) k x y h =
-    λ i. record {
-      index = getD-set-other opens k d x 0 (λ e. omega arith) i;
-      end = getD-set-other ends-of k d y 0 (λ e. omega arith) i;
-    } ∷ above opens ends-of d k x y (omega arith) i
+above-opens opens ends-of zero k x h = refl
+above-opens opens ends-of (suc d) k x h =
+    λ i. record { index = getD-set-other opens k d x 0 (λ e. omega arith) i; end = getD ends-of d 0 } ∷ above-opens opens ends-of d k x (omega arith) i
+
+above-ends : (opens ends-of : List ℕ) (d k x : ℕ) → d ≤ k → stackOf opens (set ends-of k x) d ≡ stackOf opens ends-of d
+unfolding stackOf
+above-ends opens ends-of zero k x h = refl
+above-ends opens ends-of (suc d) k x h =
+    λ i. record { index = getD opens d 0; end = getD-set-other ends-of k d x 0 (λ e. omega arith) i } ∷ above-ends opens ends-of d k x (omega arith) i
 
 pub stack-push : (opens ends-of : List ℕ) (d x y : ℕ) → d < length opens → d < length ends-of →
     stackOf (set opens d x) (set ends-of d y) (d + 1) ≡ record { index = x; end = y } ∷ stackOf opens ends-of d
 unfolding stackOf
 stack-push opens ends-of d x y a b =
     ap (stackOf (set opens d x) (set ends-of d y)) (add-one d)
-    ∙ (λ i. record { index = getD-set-same opens d x 0 a i; end = getD-set-same ends-of d y 0 b i } ∷ above opens ends-of d d x y (omega arith) i)
+    ∙ (λ i. record { index = getD-set-same opens d x 0 a i; end = getD-set-same ends-of d y 0 b i }
+    ∷ (above-ends (set opens d x) ends-of d d y (omega arith) ∙ above-opens opens ends-of d d x (omega arith)) i)
 
-pub stack-pop : (opens ends-of : List ℕ) (d x y : ℕ) → stackOf (set opens (d - 1) x) (set ends-of (d - 1) y) (d - 1) ≡ tail (stackOf opens ends-of d)
+pub stack-pop : (opens ends-of : List ℕ) (d x : ℕ) → stackOf (set opens (d - 1) x) ends-of (d - 1) ≡ tail (stackOf opens ends-of d)
 unfolding stackOf
-stack-pop opens ends-of zero x y = refl
-stack-pop opens ends-of (suc d) x y =
+stack-pop opens ends-of zero x = refl
+stack-pop opens ends-of (suc d) x =
     let e : suc d - 1 ≡ d = omega arith in
-    rw e (above opens ends-of d d x y (omega arith))
+    rw e (above-opens opens ends-of d d x (omega arith))
 
 -- an act does not look at what was passed over
 pub act-bare : (r : Rec) (st : List Open) → actOf (recOf (r .index) (r .bytes)) st ≡ actOf r st

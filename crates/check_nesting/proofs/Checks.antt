@@ -201,14 +201,14 @@ module _ {s : List ℕ} {start : ℕ} {opens : Chain} {ends-of : List ℕ} {n : 
         openers = omega (arith, y .turn .inv .openers);
       }
 
-  -- the stack after the stores that a push and a pop make
-  pub go-pop : act ≡ A.Pop → Checking s start (popped opens) (set ends-of (opens .depth - 1) 0) m next
+  -- the stack after the stores that a pop and a push make
+  pub go-pop : act ≡ A.Pop → Checking s start (popped opens) ends-of m next
   go-pop ea =
       record {
         most = omega (arith, y .turn .inv .most);
         places = length-set (opens .at) (opens .depth - 1) 0 ∙ y .turn .inv .places;
-        end-places = length-set ends-of (opens .depth - 1) 0 ∙ y .turn .inv .end-places;
-        verdict = ap (verdictFrom (readOf s next)) (stack-pop (opens .at) ends-of (opens .depth) 0 0) ∙ left A.Pop ea;
+        end-places = y .turn .inv .end-places;
+        verdict = ap (verdictFrom (readOf s next)) (stack-pop (opens .at) ends-of (opens .depth) 0) ∙ left A.Pop ea;
         counts = total-pop n (opens .depth) r (readOf s next) len (found .size) (y .turn .inv .deep) (popping ea .role) ∙ counts-on;
         deep = omega (arith, y .turn .inv .deep);
         records = omega (arith, y .turn .inv .records, found);

@@ -21,7 +21,7 @@ use Rattle.check_nesting.specs.declared.Counts.{Counts}
 use Rattle.check_nesting.specs.declared.Checked.{Checked}
 use Rattle.check_nesting.specs.declared.Checked.the-variants as C
 
--- whether records nest, or the first refusal
+-- what the check says of records: they nest, or the first refusal
 pub data Verdict : Type 0 where
   Passes : Verdict
   Refused : Refusal → Verdict
@@ -48,15 +48,16 @@ unfoldable pub verdictFrom : Reading → List Open → Verdict
 unfolding verdictOn
 verdictFrom reading st = verdictOn (reading .last .ending) (reading .recs) st
 
--- Deepest nesting: how many scopes are open where the most are, with so many open in front of the records.
 abbrev pub larger : ℕ → ℕ → ℕ
 larger a b = cond (ltb a b) b a
 
+-- how many scopes are open behind a record
 abbrev pub depthAfter : Role → ℕ → ℕ
 depthAfter Opens depth = depth + 1
 depthAfter Closes depth = depth - 1
 depthAfter Neither depth = depth
 
+-- deepest nesting: how many are open where the most are, with so many open in front of the records
 unfoldable pub deepestOf : ℕ → List Rec → ℕ
 deepestOf depth [] = depth
 deepestOf depth (r ∷ rs) = larger depth (deepestOf (depthAfter (nestingRoleOf (r .bytes)) depth) rs)
@@ -65,6 +66,7 @@ unfoldable pub sum : (Rec → ℕ) → List Rec → ℕ
 sum of [] = 0
 sum of (r ∷ rs) = of r + sum of rs
 
+-- the bytes of a record, length field included, and 1 for an opener
 abbrev pub size : Rec → ℕ
 size r = 2 + length (r .bytes)
 

@@ -1,7 +1,7 @@
 // What the nesting check does at one record: the loop of crate check_nesting does as it says.
 ghost use mathlib.Core.Path.{_≡_};
 ghost use mathlib.Core.List.{List};
-ghost use Prim.Native.Nat.{_≤_};
+ghost use Prim.Native.Nat.{_<_, _≤_, _^_};
 ghost use lib.ListN.{length};
 ghost use Rattle.constants.specs.declared.Role.the-variants.{Opens};
 ghost use Rattle.constants.specs.Raw.{rawKind, nestingRoleOf};
@@ -35,12 +35,13 @@ pub enum Act {
 pub fn act_at<'a>(
     kind: u16,
     rec: &[u8],
-    index: u32,
+    index: usize,
     opens: &'a [u32; 64],
     ends: &'a [u32; 64],
     depth: usize,
 ) -> Act
     requires { ⌜ kind ≡ rawKind (now rec) ⌝ }
+    requires { ⌜ index < 2 ^ 32 ⌝ }
     requires { ⌜ depth ≤ 64 ⌝ }
     ensures { λ r. ⌜ r ≡ actOf (recOf index (now (rec .entry))) (stackOf (now (opens .entry)) (now (ends .entry)) depth) ⌝ }
 {
@@ -48,10 +49,10 @@ pub fn act_at<'a>(
         Role::Opens => return open_at(rec, index, depth, innermost(opens, depth)),
         Role::Closes => {
             if depth == 0 {
-                return Act::Refused(Refusal::at(Refusal::NOTHING_OPEN, index as usize));
+                return Act::Refused(Refusal::at(Refusal::NOTHING_OPEN, index));
             }
-            if innermost(ends, depth) != index {
-                return Act::Refused(Refusal::at(Refusal::WRONG_END, index as usize));
+            if innermost(ends, depth) as usize != index {
+                return Act::Refused(Refusal::at(Refusal::WRONG_END, index));
             }
             return Act::Pop;
         }
@@ -60,26 +61,25 @@ pub fn act_at<'a>(
 }
 
 // The act at an opener, with any stack of so many openers of which this is the innermost's index.
-fn open_at(rec: &[u8], index: u32, depth: usize, inner: u32) -> Act
+fn open_at(rec: &[u8], index: usize, depth: usize, inner: u32) -> Act
     requires { ⌜ nestingRoleOf (now rec) ≡ Opens ⌝ }
+    requires { ⌜ index < 2 ^ 32 ⌝ }
     ensures { λ r. ⌜ ((st : List Open) → length st ≡ depth → innerIndex st ≡ inner → r ≡ openOf (linksOf (now (rec .entry))) index st) ⌝ }
 {
     match links::links_of(rec) {
-        Links::Unread => return Act::Refused(Refusal::at(
-            Refusal::UNREADABLE_OPENER,
-            index as usize,
-        )),
+        Links::Unread => return Act::Refused(Refusal::at(Refusal::UNREADABLE_OPENER, index)),
         Links::Read { parent, end } => {
             if index == 0 {
-                return Act::Refused(Refusal::at(Refusal::OPENER_AT_0, index as usize));
+                return Act::Refused(Refusal::at(Refusal::OPENER_AT_0, index));
             }
             if parent != inner {
-                return Act::Refused(Refusal::at(Refusal::WRONG_PARENT, index as usize));
+                return Act::Refused(Refusal::at(Refusal::WRONG_PARENT, index));
             }
             if 64 <= depth {
-                return Act::Refused(Refusal::at(Refusal::TOO_DEEP, index as usize));
+                return Act::Refused(Refusal::at(Refusal::TOO_DEEP, index));
             }
-            return Act::Push(Open { index, end });
+            let opener = index as u32;
+            return Act::Push(Open { index: opener, end });
         }
     }
 }

@@ -113,14 +113,7 @@ pub fn check(s: &[u8], start: usize) -> Checked
                 n.records = n.records + 1;
                 n.bytes = n.bytes + (2 + len);
                 at = next;
-                match act_at(
-                    kind,
-                    &s[from..next],
-                    index as u32,
-                    &st.opens.at,
-                    &st.ends,
-                    depth,
-                ) {
+                match act_at(kind, &s[from..next], index, &st.opens.at, &st.ends, depth) {
                     Act::Stay => {}
                     Act::Push(o) => {
                         st.opens.depth = stack::push(&mut st.opens.at, depth, o.index);
@@ -128,10 +121,7 @@ pub fn check(s: &[u8], start: usize) -> Checked
                         n.openers = n.openers + 1;
                         n.deepest = deeper(n.deepest, depth + 1);
                     }
-                    Act::Pop => {
-                        st.opens.depth = stack::pop(&mut st.opens.at, depth);
-                        st.ends[depth - 1] = 0;
-                    }
+                    Act::Pop => st.opens.depth = stack::pop(&mut st.opens.at, depth),
                     Act::Refused(e) => return Checked::Refused(e),
                 }
             }

@@ -21,7 +21,7 @@ pub struct Stack {
     // Their indexes.
     pub opens: Chain,
 
-    // Their end fields, in the same places; unused places are 0.
+    // Their end fields, in the same places.
     pub ends: [u32; 64],
 }
 

@@ -98,11 +98,9 @@ part-act-at-start c = omega (arith, found (recordAt (c .before .before)))
 part-act-at-end : tie.Need-part-act-at-end Inv-loop μ-loop
 part-act-at-end c = omega (arith, found (recordAt (c .before .before)))
 
-cast-act-at : tie.Need-cast-act-at Inv-loop μ-loop
-cast-act-at c = omega (arith, found (recordAt (c .before .before .before)))
-
 act-at-requires : tie.Need-act-at-requires Inv-loop μ-loop
-act-at-requires c κs = (kind-lent _ _ _ _ _ _ (stepped (c .before .before .before .before .before .before)), turnAt (c .before .before .before .before .before .before .before .before .before .before .before .before .before) .inv .most)
+act-at-requires c κs =
+    (kind-lent _ _ _ _ _ _ (stepped (c .before .before .before .before .before .before)), (omega (arith, found (recordAt (c .before .before .before .before .before .before))), turnAt (c .before .before .before .before .before .before .before .before .before .before .before .before .before) .inv .most))
 
 loop-less : tie.Need-loop-less Inv-loop μ-loop
 loop-less c = omega (arith, found (recordAt (c .before .before .before .before .before .before .before .before .before)))
@@ -135,15 +133,6 @@ loop-again-2 c =
 
 pop-requires : tie.Need-pop-requires Inv-loop μ-loop
 pop-requires c κs = omega (arith, popRoom (c .before), turnAt (c .before .before .before .before .before .before .before .before .before .before .before .before .before .before .before .before .before) .inv .most)
-
-sub-st : tie.Need-sub-st Inv-loop μ-loop
-sub-st c = omega (arith, popRoom (c .before .before .before))
-
-mul-st-2 : tie.Need-mul-st-2 Inv-loop μ-loop
-mul-st-2 c = omega (arith, popRoom (c .before .before .before), turnAt (c .before .before .before .before .before .before .before .before .before .before .before .before .before .before .before .before .before .before .before) .inv .most)
-
-element-write-st-2 : tie.Need-element-write-st-2 Inv-loop μ-loop
-element-write-st-2 c = omega (arith, popRoom (c .before .before .before), turnAt (c .before .before .before .before .before .before .before .before .before .before .before .before .before .before .before .before .before .before .before) .inv .most)
 
 loop-less-3 : tie.Need-loop-less-3 Inv-loop μ-loop
 loop-less-3 c = omega (arith, found (recordAt (c .before .before .before .before .before .before .before .before .before .before .before .before)))
@@ -181,7 +170,6 @@ check-spec =
     sub-act-at
     part-act-at-start
     part-act-at-end
-    cast-act-at
     act-at-requires
     (λ c. search needs)
     loop-less
@@ -197,9 +185,6 @@ check-spec =
     loop-again-2
     (λ c. search needs)
     pop-requires
-    sub-st
-    mul-st-2
-    element-write-st-2
     loop-less-3
     loop-again-3
     (λ c. search needs)

@@ -9,7 +9,7 @@ use Rattle.check_nesting.proofs.act.act_at.Statement.{statement}
 use Rattle.check_nesting.proofs.act.act_at.Tie as tie
 
 open-at-requires : tie.Need-open-at-requires
-open-at-requires c κs = role-of _ _ (c .before .before .before .before .before .pre .0) (sym (c .before .before .before .nesting-role .ensures) ∙ c .before .enum-told .given .1)
+open-at-requires c κs = (role-of _ _ (c .before .before .before .before .before .pre .0) (sym (c .before .before .before .nesting-role .ensures) ∙ c .before .enum-told .given .1), c .before .before .before .before .before .pre .1 .0)
 
 returns : tie.Need-returns
 unfolding actOf
@@ -44,6 +44,7 @@ act-at-spec =
     (λ c κs. search needs)
     returns-2
     (λ c κs. search needs)
+    (λ c. search needs)
     (λ c κs. search needs)
     returns-3
     returns-4

@@ -36,4 +36,5 @@ open-at-spec =
     returns-3
     (λ c κs. search needs)
     returns-4
+    (λ c. search needs)
     returns-5)
