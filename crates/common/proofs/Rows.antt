@@ -11,7 +11,7 @@ use borrow.Author.Tests.{le-leb, lt-leb, leb-true, leb-false}
 use lib.ListN.{length}
 use lib.Dec.{leb}
 use Rattle.common.specs.Bytes.{le, signed}
-use Rattle.common.specs.Reader.{Read, value, refused, runsOut, Reader, done, _>>=_, uint, sint}
+use Rattle.common.specs.Reader.{value, refused, runsOut, Reader, done, _>>=_, uint, sint}
 use Rattle.common.specs.declared.Refusal.{Refusal}
 use Rattle.common.proofs.Readers.{uint-value, uint-short, then-value, then-refused}
 

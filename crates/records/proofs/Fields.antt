@@ -1,11 +1,9 @@
 -- The readers of fields take so many bytes.
 -- Assumes nothing.
-use Prim.Native.Nat.{ℕ, _+_}
-use mathlib.Core.List.{List}
+use Prim.Native.Nat.{_+_}
 use Rattle.common.specs.Bytes.{le}
 use Rattle.common.proofs.Rows.{Fixed, uint-fixed, made-fixed, pair-fixed}
 use Rattle.records.specs.Field.{indexOf, index, place}
-use Rattle.records.specs.declared.SectionOffset.{SectionOffset}
 
 pub index-fixed : Fixed index 4 (λ s at. indexOf (le 4 s at))
 unfolding index
