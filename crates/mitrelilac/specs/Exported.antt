@@ -1,4 +1,5 @@
--- What document 01 says of several answers together, stated of what C receives: the numbers that the exported functions return, and the
+-- What document 01 says of what the calls return, said of what C receives: the numbers that the exported functions return, and the words
+-- of `out` as they are afterwards.
 -- words of `out` afterwards.
 use Prim.Native.Nat.{ℕ, _+_, _-_, _≤_}
 use mathlib.Core.Path.{_≡_}
