@@ -1,6 +1,6 @@
 -- How the module was compiled (cvinfo.h, the structure named at each).
 use Prim.Native.Nat.{ℕ}
-use mathlib.Core.Bool.{true, false, cond}
+use mathlib.Core.Bool.{Bool, true, false, cond}
 use lib.Dec.{eqb}
 use Rattle.common.specs.Reader.{Reader, _>>=_, done, u8, u16}
 use Rattle.names.specs.Name.{symbolName}
@@ -29,48 +29,36 @@ versionWithQfe = do
   qfe ← u16
   done (record { major = major; minor = minor; build = build; qfe = Some qfe })
 
--- COMPILESYM. In cvinfo.h the language and the flags are bits of one u32; pdb reads a byte, a u16 of flags, and a byte that it ignores.
--- The block of strings that cvinfo.h has after the name is not read.
-unfoldable pub compile2 : ℕ → Reader SymbolData
-compile2 kind = do
+-- COMPILESYM and COMPILESYM3, which differ in their versions and in that some flags are COMPILESYM3's alone. In cvinfo.h the language and
+-- the flags are bits of one u32; pdb reads a byte, a u16 of flags, and a byte that it ignores. The block of strings that cvinfo.h has
+-- after the name is not read.
+unfoldable pub compileWith : Reader CompilerVersion → Bool → ℕ → Reader SymbolData
+compileWith versions isCompile3 kind = do
   language ← u8
   flags ← u16
   ignored ← u8
   machine ← u16
-  frontend ← version
-  backend ← version
+  frontend ← versions
+  backend ← versions
   name ← symbolName kind
   done
       (CompileFlags
       (record {
         language = sourceLanguage language;
-        flags = compileFlags flags false;
+        flags = compileFlags flags isCompile3;
         «cpu_type» = cpuType machine;
         «frontend_version» = frontend;
         «backend_version» = backend;
         «version_string» = name;
       }))
 
--- COMPILESYM3
+unfoldable pub compile2 : ℕ → Reader SymbolData
+unfolding compileWith
+compile2 kind = compileWith version false kind
+
 unfoldable pub compile3 : ℕ → Reader SymbolData
-compile3 kind = do
-  language ← u8
-  flags ← u16
-  ignored ← u8
-  machine ← u16
-  frontend ← versionWithQfe
-  backend ← versionWithQfe
-  name ← symbolName kind
-  done
-      (CompileFlags
-      (record {
-        language = sourceLanguage language;
-        flags = compileFlags flags true;
-        «cpu_type» = cpuType machine;
-        «frontend_version» = frontend;
-        «backend_version» = backend;
-        «version_string» = name;
-      }))
+unfolding compileWith
+compile3 kind = compileWith versionWithQfe true kind
 
 -- S_COMPILE3 is a COMPILESYM3, S_COMPILE2 and S_COMPILE2_ST are COMPILESYM
 unfoldable pub compile : ℕ → Reader SymbolData
