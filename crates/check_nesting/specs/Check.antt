@@ -1,10 +1,9 @@
 -- Check (document 01, "Check"): walks steps to End with a stack of open openers.
-use Prim.Native.Nat.{ℕ, _+_, _-_}
+use Prim.Native.Nat.{ℕ, _+_, _-_, max}
 use mathlib.Core.Path.{_≡_}
 use mathlib.Core.List.{List, [], _∷_, tail}
 use mathlib.Core.Bool.{cond}
 use lib.ListN.{length}
-use lib.Dec.{ltb}
 use Rattle.common.specs.Reader.{refusal}
 use Rattle.common.specs.declared.Refusal.{Refusal}
 use Rattle.constants.specs.Kind.{opens}
@@ -48,9 +47,6 @@ unfoldable pub verdictFrom : Reading → List Open → Verdict
 unfolding verdictOn
 verdictFrom reading st = verdictOn (reading .last .ending) (reading .recs) st
 
-abbrev pub larger : ℕ → ℕ → ℕ
-larger a b = cond (ltb a b) b a
-
 -- how many scopes are open behind a record
 abbrev pub depthAfter : Role → ℕ → ℕ
 depthAfter Opens depth = depth + 1
@@ -60,7 +56,7 @@ depthAfter Neither depth = depth
 -- deepest nesting: how many are open where the most are, with so many open in front of the records
 unfoldable pub deepestOf : ℕ → List Rec → ℕ
 deepestOf depth [] = depth
-deepestOf depth (r ∷ rs) = larger depth (deepestOf (depthAfter (nestingRoleOf (r .bytes)) depth) rs)
+deepestOf depth (r ∷ rs) = max depth (deepestOf (depthAfter (nestingRoleOf (r .bytes)) depth) rs)
 
 unfoldable pub sum : (Rec → ℕ) → List Rec → ℕ
 sum of [] = 0

@@ -4,11 +4,12 @@ pub mod stack;
 
 ghost use mathlib.Core.Path.{_≡_};
 ghost use mathlib.Core.List.{List};
+ghost use Prim.Native.Nat.{max};
 ghost use lib.ListN.{length};
 ghost use Rattle.iter.specs.Reading.{ends};
 ghost use Rattle.check_nesting.specs.declared.stack.Open.{Open};
 ghost use Rattle.check_nesting.specs.Stack.{innerIndex};
-ghost use Rattle.check_nesting.specs.Check.{larger, onEnd, answerBy, checkOf, addsUp};
+ghost use Rattle.check_nesting.specs.Check.{onEnd, answerBy, checkOf, addsUp};
 use act::Act;
 use act::act_at;
 use common::Refusal;
@@ -60,7 +61,7 @@ fn no_counts() -> Counts
 
 // The larger of two depths.
 fn deeper(a: usize, b: usize) -> usize
-    ensures { λ r. ⌜ r ≡ larger a b ⌝ }
+    ensures { λ r. ⌜ r ≡ max a b ⌝ }
 {
     if a < b {
         return b;

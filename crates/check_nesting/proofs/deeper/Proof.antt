@@ -1,14 +1,14 @@
 -- `check_nesting::deeper` meets its contract.
 -- Assumes nothing.
-use borrow.Author.Tests.{lt-ltb, le-ltb}
+use native.Mathlib.Omega.{arith}
 use Rattle.check_nesting.proofs.deeper.Statement.{statement}
 use Rattle.check_nesting.proofs.deeper.Tie as tie
 
 returns : tie.Need-returns
-returns c = rw (lt-ltb _ _ (c .if1 .taken))
+returns c = omega (arith, c .if1 .taken)
 
 returns-2 : tie.Need-returns-2
-returns-2 c = rw (le-ltb _ _ (c .if1 .left))
+returns-2 c = omega (arith, c .if1 .left)
 
 pub deeper-spec : {M : Type 1} → statement M
 deeper-spec = tie.close (tie.spec returns returns-2)
