@@ -2,6 +2,8 @@
 //
 // The claim is stated in specs/Agreement.antt. It is the contract of a function that makes the four calls, and behind it
 // a theorem over their definitions, proofs/Agreement.antt.
+#![tactic(auto)]
+
 ghost use Rattle.std.specs.Prelude.{◌≡◌};
 ghost use Rattle.agreement.specs.Agreement.{answers_of, Condition3};
 

@@ -1,5 +1,7 @@
 // A chain of positions: the answer of the finders, and the stack of open scopes. Walk and jump list the outermost first, climb the
 // innermost.
+#![tactic(auto)]
+
 pub mod finding;
 
 ghost use Rattle.std.specs.Prelude.{◌≡◌, []};

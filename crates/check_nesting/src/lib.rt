@@ -1,4 +1,6 @@
 // The nesting check: whether the links of a stream's openers say how its records lie in one another, and what it holds.
+#![tactic(auto)]
+
 pub mod act;
 pub mod stack;
 

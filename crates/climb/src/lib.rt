@@ -1,6 +1,8 @@
 // The climb finder: the scopes that enclose an opener, by its parent field and those of its parents.
 //
 // Only steps at the opener and at its parents are made. The chain lists the innermost scope first, in the order climbed.
+#![tactic(auto)]
+
 pub mod opener;
 
 ghost use Rattle.std.specs.Prelude.{◌≡◌, []};

@@ -1,5 +1,7 @@
 // Numbers read where the caller has shown that their bytes are there, so that a record's room is tested once (pdb's src/common.rs,
 // ParseBuffer), and the refusal that every layer answers with.
+#![tactic(auto)]
+
 pub mod signed;
 pub mod unsigned;
 

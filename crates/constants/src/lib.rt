@@ -1,6 +1,8 @@
 // What is known of a record by its kind alone (pdb's src/symbol/constants.rs).
 //
 // A kind has a class, the record that it is decoded as, and a role, its part in a scope. Both lie packed in one byte of a table.
+#![tactic(auto)]
+
 pub mod classes;
 pub mod compiler;
 mod cpu_types;

@@ -1,1 +1,2 @@
 // Document 01's examples, proved of the definitions in one table (specs/Examples.antt). There is no code here.
+#![tactic(auto)]

@@ -1,4 +1,6 @@
 // Reading a stream of records one step at a time (pdb's SymbolIter: seek, then next).
+#![tactic(auto)]
+
 ghost use Rattle.std.specs.Prelude.{◌≡◌, suc, ◌≤◌, length};
 ghost use Rattle.iter.specs.Step.{frame_at, scan_from, scan_of, step_of};
 

@@ -1,6 +1,8 @@
 // The jump finder: the scopes that enclose a record, where the end field of an opener jumps over a scope that closes before it.
 //
 // As walking, it reads records by steps from a start and changes its chain in place.
+#![tactic(auto)]
+
 pub mod hop;
 
 ghost use Rattle.std.specs.Prelude.{◌≡◌};

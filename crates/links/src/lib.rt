@@ -1,4 +1,6 @@
 // What the check and the finders look at in an opener: its links.
+#![tactic(auto)]
+
 ghost use Rattle.std.specs.Prelude.{◌≡◌};
 ghost use Rattle.constants.specs.declared.Role.TheVariants.{Opens};
 ghost use Rattle.constants.specs.Raw.{nesting_role_of};

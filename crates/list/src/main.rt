@@ -1,4 +1,6 @@
 // Lists the records of the stream on standard input: reads it, and writes the text that the crate `listing` makes of it.
+#![tactic(auto)]
+
 fn main() {
     let mut stream = listing::stream_room();
     let n = io::read_full(0, &mut stream);

@@ -1,4 +1,5 @@
 // Lists one stream after another, each behind its length of four bytes on standard input and under a line with its number.
+#![tactic(auto)]
 
 // Lists the case that the input goes on with, and answers whether there was one.
 fn list_case(number: u64) -> bool {

@@ -2,6 +2,8 @@
 //
 // The text is made in lent bytes, and the contracts say which bytes it is. What a program prints no contract can say: the programs above
 // read a stream, call `put_listing` and write its text.
+#![tactic(auto)]
+
 mod shown;
 mod text;
 

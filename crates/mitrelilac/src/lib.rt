@@ -4,6 +4,8 @@
 // refusal and writes two, position and detail. Every other word stays as it was. No call keeps a reference or allocates.
 //
 // Module `condition3`: what is proved of the check and the finders together.
+#![tactic(auto)]
+
 pub mod condition3;
 
 ghost use Rattle.constants.specs.Raw.{raw_kind};

@@ -1,6 +1,8 @@
 // Names in lent bytes (pdb's parse_cstring, parse_u8_pascal_string, take and parse_symbol_name).
 //
 // A name is kept as where it starts and how long it is; `as_bytes` gives the bytes themselves, out of the lent slice.
+#![tactic(auto)]
+
 ghost use Rattle.std.specs.Prelude.{◌≡◌, drop};
 ghost use Rattle.names.specs.Name.{run, bytes, cstring, pascal, symbol_name};
 ghost use Rattle.names.specs.Answer.{part_of};

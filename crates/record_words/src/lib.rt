@@ -2,6 +2,8 @@
 //
 // `field` has the fields that are no plain numbers; the others have the records, in the rooms and the order of their decoders.
 // (A module may not have a crate's name in a program that reaches both.)
+#![tactic(auto)]
+
 pub mod code_words;
 pub mod compiland_words;
 pub mod data_words;

@@ -1,6 +1,8 @@
 // The typed records (pdb's src/symbol/mod.rs): what a record decodes to.
 //
 // Indexes, types and ids are u32, registers and sections u16; names and annotations are parts of the record.
+#![tactic(auto)]
+
 pub mod flags;
 
 ghost use Rattle.std.specs.Prelude.{◌≡◌};

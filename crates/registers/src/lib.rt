@@ -1,6 +1,8 @@
 // Register lists: a variable that lies in several registers.
 //
 // pdb collects the entries in a Vec. Here the record keeps their count and where the first one stands; module entry reads them.
+#![tactic(auto)]
+
 pub mod entry;
 
 ghost use Rattle.std.specs.Prelude.{◌≡◌};

@@ -1,6 +1,8 @@
 // Replays a list of cases with the oracle's answers, read from standard input, and says how many of our answers differ.
 //
 // The list is made by the program under oracle/; docs/COMPARISON.md has its format.
+#![tactic(auto)]
+
 mod answer;
 mod list;
 mod parts;

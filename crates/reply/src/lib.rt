@@ -1,5 +1,7 @@
 // Replies to a caller that lends words: the number that a call returns, and the words that it writes from place 0 on. The places behind
 // them stay as they were. Here refusals and chains; `operation` has the answers of step, name, register entry and check.
+#![tactic(auto)]
+
 pub mod operation;
 
 ghost use Rattle.std.specs.Prelude.{◌≡◌, ◌∷◌, ◌≤◌, length};

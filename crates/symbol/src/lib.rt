@@ -1,4 +1,6 @@
 // A record decoded to the typed record of its kind (pdb's Symbol::parse).
+#![tactic(auto)]
+
 pub mod name;
 pub mod register_entry;
 

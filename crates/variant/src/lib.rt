@@ -1,4 +1,6 @@
 // The numeric value of a constant (pdb's Variant): a prefix that is the value itself, or that says how the bytes after it are read.
+#![tactic(auto)]
+
 ghost use Rattle.std.specs.Prelude.{◌≡◌};
 ghost use Rattle.variant.specs.Numeric.{leaf, numeric};
 ghost use Rattle.variant.specs.Answer.{variant_of};

@@ -1,6 +1,8 @@
 // The walk finder: the scopes that enclose a record, by steps from a start.
 //
 // The chain is changed in place, so that no step of the walk copies it.
+#![tactic(auto)]
+
 ghost use Rattle.std.specs.Prelude.{◌≡◌};
 ghost use Rattle.walk.specs.Walk.{turn_of, walk_of};
 

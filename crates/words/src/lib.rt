@@ -1,4 +1,6 @@
 // 64-bit words, the form in which answers leave the library: values as words, and words stored where the caller lends room (`put`).
+#![tactic(auto)]
+
 pub mod put;
 
 ghost use Rattle.std.specs.Prelude.{◌≡◌};
