@@ -1,11 +1,9 @@
 -- `records::flags::ProcedureFlags::from_bits` meets its contract.
--- Assumes nothing.
 use Rattle.records.specs.Flags.{procedure_flags}
 use Rattle.records.proofs.Bits.{masked}
-use Rattle.records.proofs.flags.ProcedureFlags.from_bits.Statement.{statement}
-use Rattle.records.proofs.flags.ProcedureFlags.from_bits.Tie as tie
+use Rattle.records.proofs.flags.ProcedureFlags.from_bits.Goals as goal
 
-returns : tie.Need-returns
+pub returns : goal.returns
 unfolding procedure_flags
 returns c =
     let x = c.args.x in
@@ -19,6 +17,3 @@ returns c =
       noinline = masked 6 x i;
       optdbginfo = masked 7 x i;
     }
-
-pub from_bits_spec : {M : Type 1} → statement M
-from_bits_spec = tie.close (tie.spec returns)

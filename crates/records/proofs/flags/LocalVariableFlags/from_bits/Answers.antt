@@ -1,11 +1,9 @@
 -- `records::flags::LocalVariableFlags::from_bits` meets its contract.
--- Assumes nothing.
 use Rattle.records.specs.Flags.{local_flags}
 use Rattle.records.proofs.Bits.{masked}
-use Rattle.records.proofs.flags.LocalVariableFlags.from_bits.Statement.{statement}
-use Rattle.records.proofs.flags.LocalVariableFlags.from_bits.Tie as tie
+use Rattle.records.proofs.flags.LocalVariableFlags.from_bits.Goals as goal
 
-returns : tie.Need-returns
+pub returns : goal.returns
 unfolding local_flags
 returns c =
     let x = c.args.x in
@@ -21,6 +19,3 @@ returns c =
       isenreg_glob = masked 8 x i;
       isenreg_stat = masked 9 x i;
     }
-
-pub from_bits_spec : {M : Type 1} → statement M
-from_bits_spec = tie.close (tie.spec returns)

@@ -1,13 +1,10 @@
 -- `records::flags::CompileFlags::from_bits` meets its contract.
--- Assumes nothing.
 use mathlib.Core.Bool.{◌&&◌}
 use Rattle.records.specs.Flags.{compile_flags}
 use Rattle.records.proofs.Bits.{masked}
-use Rattle.records.proofs.flags.CompileFlags.from_bits.Statement.{statement}
-use Rattle.records.proofs.flags.CompileFlags.from_bits.Tie as tie
+use Rattle.records.proofs.flags.CompileFlags.from_bits.Goals as goal
 
--- field by field, since a chain of `rw` reads the whole record once for each
-returns : tie.Need-returns
+pub returns : goal.returns
 unfolding compile_flags
 returns c =
     let x = c.args.x in
@@ -25,6 +22,3 @@ returns c =
       pgo = masked 10 x i && c.args.compile3;
       exp_module = masked 11 x i && c.args.compile3;
     }
-
-pub from_bits_spec : {M : Type 1} → statement M
-from_bits_spec = tie.close (tie.spec returns)

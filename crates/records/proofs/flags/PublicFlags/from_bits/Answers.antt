@@ -1,11 +1,9 @@
 -- `records::flags::PublicFlags::from_bits` meets its contract.
--- Assumes nothing.
 use Rattle.records.specs.Flags.{public_flags}
 use Rattle.records.proofs.Bits.{masked}
-use Rattle.records.proofs.flags.PublicFlags.from_bits.Statement.{statement}
-use Rattle.records.proofs.flags.PublicFlags.from_bits.Tie as tie
+use Rattle.records.proofs.flags.PublicFlags.from_bits.Goals as goal
 
-returns : tie.Need-returns
+pub returns : goal.returns
 unfolding public_flags
 returns c =
     let x = c.args.x in
@@ -15,6 +13,3 @@ returns c =
       managed = masked 2 x i;
       msil = masked 3 x i;
     }
-
-pub from_bits_spec : {M : Type 1} → statement M
-from_bits_spec = tie.close (tie.spec returns)

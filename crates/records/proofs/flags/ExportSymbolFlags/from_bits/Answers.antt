@@ -1,11 +1,9 @@
 -- `records::flags::ExportSymbolFlags::from_bits` meets its contract.
--- Assumes nothing.
 use Rattle.records.specs.Flags.{export_flags}
 use Rattle.records.proofs.Bits.{masked}
-use Rattle.records.proofs.flags.ExportSymbolFlags.from_bits.Statement.{statement}
-use Rattle.records.proofs.flags.ExportSymbolFlags.from_bits.Tie as tie
+use Rattle.records.proofs.flags.ExportSymbolFlags.from_bits.Goals as goal
 
-returns : tie.Need-returns
+pub returns : goal.returns
 unfolding export_flags
 returns c =
     let x = c.args.x in
@@ -17,6 +15,3 @@ returns c =
       ordinal = masked 4 x i;
       forwarder = masked 5 x i;
     }
-
-pub from_bits_spec : {M : Type 1} → statement M
-from_bits_spec = tie.close (tie.spec returns)

@@ -1,0 +1,12 @@
+-- `records::module_of` meets its contract.
+use borrow.Author.Tests.{eq-eqb, ne_eqb}
+use Rattle.records.specs.Field.{module_of}
+use Rattle.records.proofs.module_of.Goals as goal
+
+pub returns-then-x-eq0 : goal.returns-then-x-eq0
+unfolding module_of
+returns-then-x-eq0 c = rw (eq-eqb _ 0 c.if-x-eq0.true)
+
+pub returns-else-x-eq0 : goal.returns-else-x-eq0
+unfolding module_of
+returns-else-x-eq0 c = rw (ne_eqb _ 0 c.if-x-eq0.false)
