@@ -1,0 +1,22 @@
+-- `registers::parse_multi_register_variable` meets its contract.
+use mathlib.Core.Path.{ap, sym, ◌∙◌}
+use Rattle.common.specs.Answer.{u16_of}
+use Rattle.registers.specs.EntryAnswer.{skipped_of}
+use Rattle.registers.proofs.Lists.{list_row, count-refused, entries_refused, list_value}
+use Rattle.registers.proofs.parse_multi_register_variable.Goals as goal
+
+pub returns-then-s-lt-REGISTER_COUNT : goal.returns-then-s-lt-REGISTER_COUNT
+returns-then-s-lt-REGISTER_COUNT c = sym ((list_row _ _).short c.if-s-lt-REGISTER_COUNT.true)
+
+pub returns-in-At : goal.returns-in-At
+returns-in-At c =
+    rw c.u32_at.ensures
+    (list_value _ _ c.if-s-lt-REGISTER_COUNT.false (sym (ap u16_of c.in-Value.is) ∙ c.parse_register_count.ensures) (sym (ap skipped_of c.in-At.is) ∙ c.skip_entries.ensures))
+
+pub returns-in-Refused-skip_entries : goal.returns-in-Refused-skip_entries
+returns-in-Refused-skip_entries c =
+    entries_refused _ _ c.if-s-lt-REGISTER_COUNT.false (sym (ap u16_of c.in-Value.is) ∙ c.parse_register_count.ensures) (sym (ap skipped_of c.in-Refused-skip_entries.is) ∙ c.skip_entries.ensures)
+
+pub returns-in-Refused : goal.returns-in-Refused
+returns-in-Refused c =
+    count-refused _ _ c.if-s-lt-REGISTER_COUNT.false (sym (ap u16_of c.in-Refused.is) ∙ c.parse_register_count.ensures)
