@@ -3,10 +3,9 @@
 use Prim.Native.Nat.{ℕ, zero, suc, ◌+◌, ◌-◌, ◌≤◌, ◌<◌}
 use mathlib.Core.Path.{◌≡◌, refl, ◌∙◌, sym}
 use mathlib.Core.List.{List}
-use mathlib.Core.Bool.{Bool, true, false, not}
+use mathlib.Core.Bool.{Bool, true, false}
 use native.Mathlib.Omega.{arith}
 use native.Mathlib.Numerals.{sub-one}
-use borrow.Author.Tests.{not-true, not-false}
 use lib.ListN.{length}
 use lib.Dec.{leb}
 use Rattle.common.specs.Bytes.{le}
@@ -24,21 +23,21 @@ unfolding entry
 entry_row kind s at = last _ (uint_fixed 2)
 
 -- what the test of an entry's room says
-pub entry_room : (s : List ℕ) (at : ℕ) {b : Bool} → b ≡ leb (at + 2) (length s) → not b ≡ false → at + 2 ≤ length s
-entry_room s at e t = room (at + 2) (length s) e (not-false _ t)
+pub entry_room : (s : List ℕ) (at : ℕ) {b : Bool} → b ≡ leb (at + 2) (length s) → b ≡ true → at + 2 ≤ length s
+entry_room s at e t = room (at + 2) (length s) e t
 
 -- the register is there, and the name behind it was read or refused; or the register runs out
 module _ (kind : ℕ) (s : List ℕ) (at : ℕ) {b : Bool} (e : b ≡ leb (at + 2) (length s)) where
-  pub entry_value : not b ≡ false → {register to : ℕ} {name : Part} → register ≡ le 2 s at → value name to ≡ symbol_name kind s (at + 2) → value (record { register = register; name = name }) to ≡ entry kind s at
+  pub entry_value : b ≡ true → {register to : ℕ} {name : Part} → register ≡ le 2 s at → value name to ≡ symbol_name kind s (at + 2) → value (record { register = register; name = name }) to ≡ entry kind s at
   unfolding entry_row
   entry_value t p q = rw p (tail_value (entry_row kind s at) (symbol_name kind) _ refl (entry_room s at e t) q)
 
-  pub entry-refused : not b ≡ false → {f : Refusal} → refused f ≡ symbol_name kind s (at + 2) → refused f ≡ entry kind s at
+  pub entry-refused : b ≡ true → {f : Refusal} → refused f ≡ symbol_name kind s (at + 2) → refused f ≡ entry kind s at
   unfolding entry_row
   entry-refused t q = tail_refused (entry_row kind s at) (symbol_name kind) _ refl (entry_room s at e t) q
 
-  pub entry_short : not b ≡ true → refused runs_out ≡ entry kind s at
-  entry_short t = sym ((entry_row kind s at).short (no_room (at + 2) (length s) e (not-true _ t)))
+  pub entry_short : b ≡ false → refused runs_out ≡ entry kind s at
+  entry_short t = sym ((entry_row kind s at).short (no_room (at + 2) (length s) e t))
 
 -- past no entry, past one more, and past one that can't be read
 pub skip-none : (kind n : ℕ) (s : List ℕ) (at : ℕ) → n ≤ 0 → value tt at ≡ skip kind n s at
