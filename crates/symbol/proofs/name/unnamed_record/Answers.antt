@@ -1,0 +1,13 @@
+-- `symbol::name::unnamed_record` meets its contract.
+use mathlib.Core.Path.{ap, sym, ◌∙◌}
+use Rattle.names.specs.Answer.{part_of}
+use Rattle.names.specs.declared.Part.{Part}
+use Rattle.records.specs.declared.OptionPart.TheVariants.{None}
+use Rattle.symbol.specs.Name.{answered}
+use Rattle.symbol.proofs.name.unnamed_record.Goals as goal
+
+pub returns-in-Value : goal.returns-in-Value
+returns-in-Value c = ap (answered (λ (n : Part). None)) (sym (ap part_of c.in-Value.is) ∙ c.parse_symbol_name.ensures)
+
+pub returns-in-Refused : goal.returns-in-Refused
+returns-in-Refused c = ap (answered (λ (n : Part). None)) (sym (ap part_of c.in-Refused.is) ∙ c.parse_symbol_name.ensures)
