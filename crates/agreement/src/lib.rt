@@ -11,7 +11,7 @@ use chain::finding::Finding;
 use check_nesting::Checked;
 
 // What the four calls return.
-#[derive(Drop)]
+#[derive(Clone, Copy)]
 pub struct Answers {
     // The nesting check's, from the start.
     pub checked: Checked,

@@ -6,7 +6,7 @@ use super::Chain;
 use common::Refusal;
 
 // Whether a finder answers.
-#[derive(Drop)]
+#[derive(Clone, Copy)]
 pub enum Outcome {
     // It does, with a chain and a count.
     Answer,
@@ -16,7 +16,7 @@ pub enum Outcome {
 }
 
 // What a finder returns. At a refusal the chain is empty and the count 0.
-#[derive(Drop)]
+#[derive(Clone, Copy)]
 pub struct Finding {
     // Whether it answers.
     pub out: Outcome,

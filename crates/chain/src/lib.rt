@@ -8,7 +8,7 @@ ghost use Rattle.std.specs.Prelude.{◌≡◌, []};
 ghost use Rattle.chain.specs.Chain.{chain_of};
 
 // Up to 64 positions and their count.
-#[derive(Drop)]
+#[derive(Clone, Copy)]
 pub struct Chain {
     // The positions, from the first place on; unused places are 0.
     pub at: [u32; 64],

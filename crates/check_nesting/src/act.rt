@@ -13,7 +13,7 @@ use constants::Role;
 use links::Links;
 
 // What the check does with a record.
-#[derive(Drop)]
+#[derive(Clone, Copy)]
 pub enum Act {
     // It goes on: the record opens no scope and closes none.
     Stay,

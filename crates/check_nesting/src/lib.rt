@@ -16,7 +16,7 @@ use iter::Next;
 use stack::Stack;
 
 // What a stream holds, from the start that is checked on.
-#[derive(Drop)]
+#[derive(Clone, Copy)]
 pub struct Counts {
     // The records that steps yield.
     pub records: usize,
@@ -38,7 +38,7 @@ pub struct Counts {
 }
 
 // What the nesting check answers.
-#[derive(Drop)]
+#[derive(Clone, Copy)]
 pub enum Checked {
     // The stream nests, and holds so much.
     Good(Counts),

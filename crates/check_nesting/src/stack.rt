@@ -6,7 +6,7 @@ ghost use Rattle.check_nesting.specs.Stack.{top_of};
 use chain::Chain;
 
 // An open opener.
-#[derive(Drop)]
+#[derive(Clone, Copy)]
 pub struct Open {
     // Its index.
     pub index: u32,
@@ -16,7 +16,7 @@ pub struct Open {
 }
 
 // The open openers, the innermost last.
-#[derive(Drop)]
+#[derive(Clone, Copy)]
 pub struct Stack {
     // Their indexes.
     pub opens: Chain,

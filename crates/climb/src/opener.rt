@@ -11,7 +11,7 @@ use iter::Next;
 use links::Links;
 
 // What stands at a position, for a climb.
-#[derive(Drop)]
+#[derive(Clone, Copy)]
 pub enum Opener {
     // An opener, whose parent field this is.
     Parent(usize),

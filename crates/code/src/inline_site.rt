@@ -14,7 +14,7 @@ use records::{Decoded, InlineSiteSymbol, OptionU32, SymbolData};
 pub const INVOCATIONS: usize = 14;
 
 // What reading the count of invocations answers: the count or none and the position after it, or the refusal.
-#[derive(Drop)]
+#[derive(Clone, Copy)]
 pub enum ParsedInvocations {
     Value(OptionU32, usize),
     Refused(Refusal),

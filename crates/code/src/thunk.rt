@@ -15,7 +15,7 @@ pub const THUNK_NAME: usize = 23;
 pub const THUNK_VARIANT: usize = 22;
 
 // What reading the data of a thunk's variant answers: the variant and the position after it, or the refusal.
-#[derive(Drop)]
+#[derive(Clone, Copy)]
 pub enum ParsedThunkKind {
     Value(ThunkKind, usize),
     Refused(Refusal),

@@ -10,7 +10,7 @@ ghost use Rattle.common.specs.Bytes.{le};
 ghost use Rattle.common.specs.Reader.{refusal};
 
 // Why a call refuses.
-#[derive(Drop)]
+#[derive(Clone, Copy)]
 pub struct Refusal {
     // The number of the refusal.
     pub number: u8,

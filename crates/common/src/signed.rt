@@ -40,19 +40,19 @@ fn i64_at(s: &[u8], at: usize) -> i64
 }
 
 // What reading a number answers: the number and the position after it, or the refusal.
-#[derive(Drop)]
+#[derive(Clone, Copy)]
 pub enum ParsedI16 {
     Value(i16, usize),
     Refused(Refusal),
 }
 
-#[derive(Drop)]
+#[derive(Clone, Copy)]
 pub enum ParsedI32 {
     Value(i32, usize),
     Refused(Refusal),
 }
 
-#[derive(Drop)]
+#[derive(Clone, Copy)]
 pub enum ParsedI64 {
     Value(i64, usize),
     Refused(Refusal),

@@ -7,25 +7,25 @@ ghost use Rattle.common.specs.Answer.{u8_of, u16_of, u32_of, u64_of};
 use super::Refusal;
 
 // What reading a number answers: the number and the position after it, or the refusal.
-#[derive(Drop)]
+#[derive(Clone, Copy)]
 pub enum ParsedU8 {
     Value(u8, usize),
     Refused(Refusal),
 }
 
-#[derive(Drop)]
+#[derive(Clone, Copy)]
 pub enum ParsedU16 {
     Value(u16, usize),
     Refused(Refusal),
 }
 
-#[derive(Drop)]
+#[derive(Clone, Copy)]
 pub enum ParsedU32 {
     Value(u32, usize),
     Refused(Refusal),
 }
 
-#[derive(Drop)]
+#[derive(Clone, Copy)]
 pub enum ParsedU64 {
     Value(u64, usize),
     Refused(Refusal),

@@ -16,7 +16,7 @@ use records::{
 pub const REFERENCE_NAME: usize = 12;
 
 // What reading a name that may be missing answers: the name or none, and the position after it, or the refusal.
-#[derive(Drop)]
+#[derive(Clone, Copy)]
 pub enum ParsedOptionPart {
     Value(OptionPart, usize),
     Refused(Refusal),

@@ -61,7 +61,7 @@ pub const S_MANCONSTANT: u16 = 0x112d;
 pub const S_INLINESITE2: u16 = 0x115d;
 
 // What a record is decoded as, in the order of pdb's `SymbolData`.
-#[derive(Drop)]
+#[derive(Clone, Copy)]
 pub enum Class {
     // A kind that is not read.
     Unknown,
@@ -122,7 +122,7 @@ pub enum Class {
 }
 
 // Whether a record opens a scope or closes one.
-#[derive(Drop)]
+#[derive(Clone, Copy)]
 pub enum Role {
     // It does neither.
     Neither,

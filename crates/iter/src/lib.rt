@@ -10,7 +10,7 @@ use common::Refusal;
 pub const MAX_STREAM: usize = 0xffff_ffff;
 
 // What stands at a position.
-#[derive(Drop)]
+#[derive(Clone, Copy)]
 pub enum Frame {
     // No byte is left.
     Nothing,
@@ -45,7 +45,7 @@ fn frame_at(s: &[u8], at: usize) -> Frame
 }
 
 // Where a step ends.
-#[derive(Drop)]
+#[derive(Clone, Copy)]
 pub enum Next {
     // At the end of the stream, which is this position.
     End(usize),
@@ -65,7 +65,7 @@ pub enum Next {
 }
 
 // A step, with what it passed over.
-#[derive(Drop)]
+#[derive(Clone, Copy)]
 pub struct Scan {
     // The fillers passed over.
     pub fillers: usize,

@@ -11,7 +11,7 @@ use iter::Next;
 use links::Links;
 
 // What the jump finder does at a record that it reads.
-#[derive(Drop)]
+#[derive(Clone, Copy)]
 pub enum Hop {
     // It goes on: the record opens no scope and closes none.
     Stay,
@@ -71,7 +71,7 @@ pub fn hop_at(kind: u16, rec: &[u8], index: usize, next: usize, i: usize, depth:
 }
 
 // Where a jump comes to.
-#[derive(Drop)]
+#[derive(Clone, Copy)]
 pub enum Land {
     // A closer at the end field: reading goes on at this position, after it.
     After(usize),

@@ -9,7 +9,7 @@ ghost use Rattle.links.specs.Links.{links_of};
 use symbol::name::Named;
 
 // The links of an opener.
-#[derive(Drop)]
+#[derive(Clone, Copy)]
 pub enum Links {
     // Decode refuses the record.
     Unread,

@@ -9,7 +9,7 @@ ghost use Rattle.reply.specs.Replies.{check_reply, finding_reply};
 ghost use Rattle.mitrelilac.specs.Exported.{call, Condition3};
 
 // The numbers that the four calls return.
-#[derive(Drop)]
+#[derive(Clone, Copy)]
 pub struct Returned {
     // By mitrelilac_check.
     pub check: u32,

@@ -11,7 +11,7 @@ ghost use Rattle.names.specs.Lent.{IsPart};
 use common::Refusal;
 
 // Some of the lent bytes.
-#[derive(Drop)]
+#[derive(Clone, Copy)]
 pub struct Part {
     // The position of the first.
     pub start: usize,
@@ -21,7 +21,7 @@ pub struct Part {
 }
 
 // What reading a name answers: the name and the position after it, or the refusal.
-#[derive(Drop)]
+#[derive(Clone, Copy)]
 pub enum ParsedPart {
     Value(Part, usize),
     Refused(Refusal),

@@ -4,7 +4,7 @@ ghost use Rattle.std.specs.Prelude.{◌≡◌};
 ghost use Rattle.records.specs.Flags.{procedure_flags, public_flags, export_flags, local_flags, separated_flags, compile_flags};
 
 // The flags of a `PublicSymbol`: what it is (CV_PUBSYMFLAGS).
-#[derive(Drop)]
+#[derive(Clone, Copy)]
 pub struct PublicFlags {
     // It is code.
     pub code: bool,
@@ -38,7 +38,7 @@ impl PublicFlags {
 }
 
 // The flags of a `ProcedureSymbol` or a `LabelSymbol`: how it returns and was compiled (CV_PROCFLAGS).
-#[derive(Drop)]
+#[derive(Clone, Copy)]
 pub struct ProcedureFlags {
     // It has a frame pointer: none was omitted.
     pub nofpo: bool,
@@ -92,7 +92,7 @@ impl ProcedureFlags {
 }
 
 // The flags of a `LocalSymbol`: what the variable is (CV_LVARFLAGS).
-#[derive(Drop)]
+#[derive(Clone, Copy)]
 pub struct LocalVariableFlags {
     // It is a parameter.
     pub isparam: bool,
@@ -156,7 +156,7 @@ impl LocalVariableFlags {
 }
 
 // The flags of an `ExportSymbol`: what is exported, and how.
-#[derive(Drop)]
+#[derive(Clone, Copy)]
 pub struct ExportSymbolFlags {
     // It is a constant.
     pub constant: bool,
@@ -200,7 +200,7 @@ impl ExportSymbolFlags {
 }
 
 // The flags of a `SeparatedCodeSymbol`: what the code is (CV_SEPCODEFLAGS).
-#[derive(Drop)]
+#[derive(Clone, Copy)]
 pub struct SeparatedCodeFlags {
     // It is a lexical scope too.
     pub islexicalscope: bool,
@@ -224,7 +224,7 @@ impl SeparatedCodeFlags {
 }
 
 // The flags of a `CompileFlagsSymbol`: what the module was compiled with.
-#[derive(Drop)]
+#[derive(Clone, Copy)]
 pub struct CompileFlags {
     // For edit and continue.
     pub edit_and_continue: bool,

@@ -17,7 +17,7 @@ use names::Part;
 use variant::Variant;
 
 // A number of 16 bits that may be missing: a module, a QFE number.
-#[derive(Drop)]
+#[derive(Clone, Copy)]
 pub enum OptionU16 {
     // Missing.
     None,
@@ -26,7 +26,7 @@ pub enum OptionU16 {
 }
 
 // A number of 32 bits that may be missing: a parent, a next, a count of invocations.
-#[derive(Drop)]
+#[derive(Clone, Copy)]
 pub enum OptionU32 {
     // Missing.
     None,
@@ -35,7 +35,7 @@ pub enum OptionU32 {
 }
 
 // A name that may be missing.
-#[derive(Drop)]
+#[derive(Clone, Copy)]
 pub enum OptionPart {
     // The record has no name.
     None,
@@ -66,7 +66,7 @@ pub fn module_of(x: u16) -> OptionU16
 }
 
 // A place in the program: an offset within a section.
-#[derive(Drop)]
+#[derive(Clone, Copy)]
 pub struct SectionOffset {
     // The offset from the start of the section.
     pub offset: u32,
@@ -75,7 +75,7 @@ pub struct SectionOffset {
 }
 
 // The object file that a module was made from. S_OBJNAME, S_OBJNAME_ST.
-#[derive(Drop)]
+#[derive(Clone, Copy)]
 pub struct ObjNameSymbol {
     // The signature of the object file.
     pub signature: u32,
@@ -84,7 +84,7 @@ pub struct ObjNameSymbol {
 }
 
 // A variable that is kept in a register. S_REGISTER, S_REGISTER_ST.
-#[derive(Drop)]
+#[derive(Clone, Copy)]
 pub struct RegisterVariableSymbol {
     // The type of the variable.
     pub type_index: u32,
@@ -95,7 +95,7 @@ pub struct RegisterVariableSymbol {
 }
 
 // A constant. S_CONSTANT, S_CONSTANT_ST, S_MANCONSTANT.
-#[derive(Drop)]
+#[derive(Clone, Copy)]
 pub struct ConstantSymbol {
     // Whether the type is a metadata token: S_MANCONSTANT.
     pub managed: bool,
@@ -108,7 +108,7 @@ pub struct ConstantSymbol {
 }
 
 // A type that has a name. S_UDT, S_UDT_ST, S_COBOLUDT, S_COBOLUDT_ST.
-#[derive(Drop)]
+#[derive(Clone, Copy)]
 pub struct UserDefinedTypeSymbol {
     // The type that is named.
     pub type_index: u32,
@@ -119,7 +119,7 @@ pub struct UserDefinedTypeSymbol {
 // A variable that spans several registers. S_MANYREG, S_MANYREG_ST, S_MANYREG2, S_MANYREG2_ST.
 //
 // Its entries stand one after another from `first` on, the most significant register first; each is a register and a name.
-#[derive(Drop)]
+#[derive(Clone, Copy)]
 pub struct MultiRegisterVariableSymbol {
     // The type of the variable.
     pub type_index: u32,
@@ -130,7 +130,7 @@ pub struct MultiRegisterVariableSymbol {
 }
 
 // Data at a fixed place, such as a global variable. S_LDATA32, S_GDATA32, S_LMANDATA, S_GMANDATA, and their _ST.
-#[derive(Drop)]
+#[derive(Clone, Copy)]
 pub struct DataSymbol {
     // Whether it is global: S_GDATA32, S_GMANDATA, and their _ST.
     pub global: bool,
@@ -145,7 +145,7 @@ pub struct DataSymbol {
 }
 
 // A public symbol, by its mangled name. S_PUB32, S_PUB32_ST.
-#[derive(Drop)]
+#[derive(Clone, Copy)]
 pub struct PublicSymbol {
     // What the symbol is.
     pub flags: PublicFlags,
@@ -157,7 +157,7 @@ pub struct PublicSymbol {
 
 // A procedure, such as a function or a method; it opens a scope, but for S_LPROC32_ID. S_LPROC32, S_LPROC32_ST, S_GPROC32,
 // S_GPROC32_ST, S_LPROC32_DPC; S_LPROC32_ID, S_GPROC32_ID, S_LPROC32_DPC_ID, whose type is an id.
-#[derive(Drop)]
+#[derive(Clone, Copy)]
 pub struct ProcedureSymbol {
     // Whether it is global: S_GPROC32, S_GPROC32_ST, S_GPROC32_ID.
     pub global: bool,
@@ -186,7 +186,7 @@ pub struct ProcedureSymbol {
 }
 
 // A variable of which each thread has its own. S_LTHREAD32, S_LTHREAD32_ST, S_GTHREAD32, S_GTHREAD32_ST.
-#[derive(Drop)]
+#[derive(Clone, Copy)]
 pub struct ThreadStorageSymbol {
     // Whether it is global: S_GTHREAD32, S_GTHREAD32_ST.
     pub global: bool,
@@ -199,7 +199,7 @@ pub struct ThreadStorageSymbol {
 }
 
 // A version of the front end or the back end, in a `CompileFlagsSymbol`.
-#[derive(Drop)]
+#[derive(Clone, Copy)]
 pub struct CompilerVersion {
     // The major number.
     pub major: u16,
@@ -212,7 +212,7 @@ pub struct CompilerVersion {
 }
 
 // How a module was compiled. S_COMPILE2, S_COMPILE2_ST, S_COMPILE3.
-#[derive(Drop)]
+#[derive(Clone, Copy)]
 pub struct CompileFlagsSymbol {
     // The source language, as `source_language` of crate constants reads it.
     pub language: u8,
@@ -229,14 +229,14 @@ pub struct CompileFlagsSymbol {
 }
 
 // A `using namespace` directive. S_UNAMESPACE, S_UNAMESPACE_ST.
-#[derive(Drop)]
+#[derive(Clone, Copy)]
 pub struct UsingNamespaceSymbol {
     // The namespace that is used.
     pub name: Part,
 }
 
 // A reference to a procedure, which may stand in another module. S_PROCREF, S_PROCREF_ST, S_LPROCREF, S_LPROCREF_ST.
-#[derive(Drop)]
+#[derive(Clone, Copy)]
 pub struct ProcedureReferenceSymbol {
     // Whether the procedure is global: S_PROCREF, S_PROCREF_ST.
     pub global: bool,
@@ -251,7 +251,7 @@ pub struct ProcedureReferenceSymbol {
 }
 
 // A reference to data, which may stand in another module. S_DATAREF, S_DATAREF_ST.
-#[derive(Drop)]
+#[derive(Clone, Copy)]
 pub struct DataReferenceSymbol {
     // A checksum of the name.
     pub sum_name: u32,
@@ -264,7 +264,7 @@ pub struct DataReferenceSymbol {
 }
 
 // A reference to an annotation, which may stand in another module. S_ANNOTATIONREF.
-#[derive(Drop)]
+#[derive(Clone, Copy)]
 pub struct AnnotationReferenceSymbol {
     // A checksum of the name.
     pub sum_name: u32,
@@ -277,7 +277,7 @@ pub struct AnnotationReferenceSymbol {
 }
 
 // What a `TrampolineSymbol` is for.
-#[derive(Drop)]
+#[derive(Clone, Copy)]
 pub enum TrampolineType {
     // Incremental linking: 0.
     Incremental,
@@ -298,7 +298,7 @@ pub fn trampoline_type(x: u16) -> TrampolineType
 }
 
 // A piece of code that jumps on to another. S_TRAMPOLINE.
-#[derive(Drop)]
+#[derive(Clone, Copy)]
 pub struct TrampolineSymbol {
     // What it is for.
     pub tramp_type: TrampolineType,
@@ -311,7 +311,7 @@ pub struct TrampolineSymbol {
 }
 
 // A symbol that the program exports. S_EXPORT.
-#[derive(Drop)]
+#[derive(Clone, Copy)]
 pub struct ExportSymbol {
     // The ordinal that it is exported by.
     pub ordinal: u16,
@@ -322,7 +322,7 @@ pub struct ExportSymbol {
 }
 
 // A local variable in optimized code. S_LOCAL.
-#[derive(Drop)]
+#[derive(Clone, Copy)]
 pub struct LocalSymbol {
     // The type of the variable.
     pub type_index: u32,
@@ -333,14 +333,14 @@ pub struct LocalSymbol {
 }
 
 // The build information of a module. S_BUILDINFO.
-#[derive(Drop)]
+#[derive(Clone, Copy)]
 pub struct BuildInfoSymbol {
     // The id of the record that has it.
     pub id: u32,
 }
 
 // A call that was replaced by the body of the function called; it opens a scope. S_INLINESITE, S_INLINESITE2.
-#[derive(Drop)]
+#[derive(Clone, Copy)]
 pub struct InlineSiteSymbol {
     // The index of the procedure or inline site that encloses it.
     pub parent: OptionU32,
@@ -355,7 +355,7 @@ pub struct InlineSiteSymbol {
 }
 
 // A label in code. S_LABEL32, S_LABEL32_ST.
-#[derive(Drop)]
+#[derive(Clone, Copy)]
 pub struct LabelSymbol {
     // Where the label stands.
     pub offset: SectionOffset,
@@ -366,7 +366,7 @@ pub struct LabelSymbol {
 }
 
 // A block of code; it opens a scope. S_BLOCK32, S_BLOCK32_ST.
-#[derive(Drop)]
+#[derive(Clone, Copy)]
 pub struct BlockSymbol {
     // The index of the scope that encloses it, 0 if there is none.
     pub parent: u32,
@@ -381,7 +381,7 @@ pub struct BlockSymbol {
 }
 
 // A variable at an offset from the address in a register, such as %EBP + 8. S_REGREL32.
-#[derive(Drop)]
+#[derive(Clone, Copy)]
 pub struct RegisterRelativeSymbol {
     // The offset.
     pub offset: i32,
@@ -394,7 +394,7 @@ pub struct RegisterRelativeSymbol {
 }
 
 // What an adjustor thunk does before it jumps.
-#[derive(Drop)]
+#[derive(Clone, Copy)]
 pub struct ThunkAdjustor {
     // What is added to `this`.
     pub delta: u16,
@@ -403,7 +403,7 @@ pub struct ThunkAdjustor {
 }
 
 // The six variants of a `ThunkSymbol`.
-#[derive(Drop)]
+#[derive(Clone, Copy)]
 pub enum ThunkKind {
     // A plain thunk: 0.
     NoType,
@@ -420,7 +420,7 @@ pub enum ThunkKind {
 }
 
 // A thunk, a small procedure that goes on to another; it opens a scope. S_THUNK32, S_THUNK32_ST.
-#[derive(Drop)]
+#[derive(Clone, Copy)]
 pub struct ThunkSymbol {
     // The index of the scope that encloses it.
     pub parent: OptionU32,
@@ -439,7 +439,7 @@ pub struct ThunkSymbol {
 }
 
 // Code of a procedure that is placed apart from it; it opens a scope. S_SEPCODE.
-#[derive(Drop)]
+#[derive(Clone, Copy)]
 pub struct SeparatedCodeSymbol {
     // The index of the scope that encloses it, 0 if there is none.
     pub parent: u32,
@@ -456,7 +456,7 @@ pub struct SeparatedCodeSymbol {
 }
 
 // A typed record: one case for each class of records, in the order of pdb.
-#[derive(Drop)]
+#[derive(Clone, Copy)]
 pub enum SymbolData {
     // The end of a scope, such as a procedure or a block. S_END.
     ScopeEnd,
@@ -515,7 +515,7 @@ pub enum SymbolData {
 }
 
 // What decoding answers.
-#[derive(Drop)]
+#[derive(Clone, Copy)]
 pub enum Decoded {
     // The record, and the bytes that it took.
     Record(SymbolData, usize),

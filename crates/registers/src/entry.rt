@@ -7,7 +7,7 @@ use common::Refusal;
 use names::{ParsedPart, Part};
 
 // An entry: a register that holds a piece of the variable.
-#[derive(Drop)]
+#[derive(Clone, Copy)]
 pub struct RegisterEntry {
     // The register.
     pub register: u16,
@@ -17,7 +17,7 @@ pub struct RegisterEntry {
 }
 
 // What reading an entry answers: the entry and the position after it, or the refusal.
-#[derive(Drop)]
+#[derive(Clone, Copy)]
 pub enum ParsedEntry {
     Value(RegisterEntry, usize),
     Refused(Refusal),
@@ -39,7 +39,7 @@ fn parse_entry(s: &[u8], at: usize, kind: u16) -> ParsedEntry
 }
 
 // What passing entries answers: the position after the last one, or the refusal of the first that can't be read.
-#[derive(Drop)]
+#[derive(Clone, Copy)]
 pub enum Skipped {
     At(usize),
     Refused(Refusal),

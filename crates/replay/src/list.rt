@@ -3,7 +3,7 @@
 use super::parts::{FREE, Words};
 
 // What was replayed so far.
-#[derive(Drop)]
+#[derive(Clone, Copy)]
 pub struct Tally {
     // How many cases.
     pub cases: u64,
@@ -46,7 +46,7 @@ impl Tally {
 }
 
 // A number that was read.
-#[derive(Drop)]
+#[derive(Clone, Copy)]
 pub struct Number {
     // The number.
     pub value: u64,
@@ -76,7 +76,7 @@ fn number_at(s: &[u8], at: usize) -> Number {
 }
 
 // An answer that was compared.
-#[derive(Drop)]
+#[derive(Clone, Copy)]
 pub struct Compared {
     // Whether it is that of the list.
     pub same: bool,

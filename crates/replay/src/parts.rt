@@ -10,7 +10,7 @@ use variant::ParsedVariant;
 pub const FREE: u64 = 0xfeed_fedd_feed_fedd;
 
 // An answer in words.
-#[derive(Drop)]
+#[derive(Clone, Copy)]
 pub struct Words {
     // The number that was returned, and the words that were written.
     pub at: [u64; 68],

@@ -35,7 +35,7 @@ use registers::entry::Skipped;
 use variant::ParsedVariant;
 
 // Whether there is a name, and the part of the record that it is; or decode's refusal.
-#[derive(Drop)]
+#[derive(Clone, Copy)]
 pub enum Named {
     Answer(OptionPart),
     Refused(Refusal),

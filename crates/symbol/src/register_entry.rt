@@ -13,7 +13,7 @@ use registers::REGISTER_COUNT;
 use registers::entry::{ParsedEntry, RegisterEntry};
 
 // The register and its name, or why there is none.
-#[derive(Drop)]
+#[derive(Clone, Copy)]
 pub enum Listed {
     // The entry.
     Answer(RegisterEntry),

@@ -26,7 +26,7 @@ pub const LF_QUADWORD: u16 = 0x8009;
 pub const LF_UQUADWORD: u16 = 0x800a;
 
 // A numeric value, in the width and with the sign in which it is stored.
-#[derive(Drop)]
+#[derive(Clone, Copy)]
 pub enum Variant {
     U8(u8),
     U16(u16),
@@ -38,7 +38,7 @@ pub enum Variant {
 }
 
 // What reading a numeric value answers: the value and the position after it, or the refusal.
-#[derive(Drop)]
+#[derive(Clone, Copy)]
 pub enum ParsedVariant {
     Value(Variant, usize),
     Refused(Refusal),

@@ -13,7 +13,7 @@ use constants::Role;
 use iter::Next;
 
 // What the walk does at a record that it reads.
-#[derive(Drop)]
+#[derive(Clone, Copy)]
 pub enum Turn {
     // It goes on: the record opens no scope and closes none.
     Stay,

@@ -1,0 +1,9 @@
+use Prim.Native.Nat.{◌-◌}
+use Rattle.climb.proofs.Climbs.{Climbing, climbing_first, at_top, at_full, at_above, at_missing, going_up}
+use Rattle.climb.proofs.climb_from.Given as goal
+
+abbrev pub invariant-loop-parent : goal.invariant-loop-parent
+invariant-loop-parent l = Climbing l.s l.i l.first l.chain l.index l.parent
+
+abbrev pub decreases-loop-parent : goal.decreases-loop-parent
+decreases-loop-parent l = 64 - l.chain.depth

@@ -1,0 +1,10 @@
+use Prim.Native.Nat.{◌-◌, ◌<◌}
+use lib.ListN.{length}
+use Rattle.jump.proofs.Jumps.{Jumping, at_end, at_refused, going_stay, going_push, over, going_over, at_miss, at_found, at_refusing}
+use Rattle.jump.proofs.jump.Given as goal
+
+abbrev pub invariant-loop-e : goal.invariant-loop-e
+invariant-loop-e l = Jumping l.s l.start l.i l.chain l.at l.read
+
+abbrev pub decreases-loop-e : goal.decreases-loop-e
+decreases-loop-e l = length l.s - l.at

@@ -1,0 +1,10 @@
+use Prim.Native.Nat.{◌-◌, ◌<◌}
+use lib.ListN.{length}
+use Rattle.walk.proofs.Walks.{Walking, push_room, pop_room, at_end, at_refused, going_stay, going_push, going_pop, at_found, at_refusing}
+use Rattle.walk.proofs.walk.Given as goal
+
+abbrev pub invariant-loop-e : goal.invariant-loop-e
+invariant-loop-e l = Walking l.s l.start l.i l.chain l.at l.read
+
+abbrev pub decreases-loop-e : goal.decreases-loop-e
+decreases-loop-e l = length l.s - l.at
