@@ -1,7 +1,9 @@
 -- `climb::opener::opener_at` meets its contract.
 use native.Mathlib.Omega.{arith}
-use mathlib.Core.Path.{sym, ◌∙◌}
+use mathlib.Core.Path.{◌≡◌, sym, ◌∙◌}
 use borrow.Author.Tests.{eq-eqb, ne_eqb}
+use Rattle.iter.specs.Step.{scan_of, step_of}
+use Rattle.iter.specs.declared.Next.TheVariants.{Record}
 use Rattle.iter.proofs.Reading.{step_fits}
 use Rattle.iter.proofs.Records.{kind_lent, role_of_lem}
 use Rattle.climb.specs.Opener.{opener_of}
@@ -17,25 +19,33 @@ unfolding opener_of
 returns-in-Refused c = rw (sym c.step.ensures ∙ c.in-Refused.is)
 
 pub returns-then-index-at : goal.returns-then-index-at
-returns-then-index-at c = rw (c.at-then-index-at.ensures, opener_record _ _ _ _ _ _ ((sym c.step.ensures ∙ c.in-Record.is)), ne_eqb _ _ c.if-index-at.true)
+unfolding step_of
+returns-then-index-at c = rw (c.at-then-index-at.ensures, opener_record _ _ _ _ _ _ ((let h : (scan_of c.args.s.now c.args.at).step ≡ Record c.in-Record.kind c.in-Record.index c.in-Record.from c.in-Record.len c.in-Record.next = sym c.step.ensures ∙ c.in-Record.is in h)), ne_eqb _ _ c.if-index-at.true)
 
 pub slice_bounds-opener_in-count : goal.slice_bounds-opener_in-count
-slice_bounds-opener_in-count c = omega (arith, step_fits _ _ _ _ _ _ ((sym c.step.ensures ∙ c.in-Record.is)))
+unfolding step_of
+slice_bounds-opener_in-count c = omega (arith, step_fits _ _ _ _ _ _ ((let h : (scan_of c.args.s.now c.args.at).step ≡ Record c.in-Record.kind c.in-Record.index c.in-Record.from c.in-Record.len c.in-Record.next = sym c.step.ensures ∙ c.in-Record.is in h)))
 
 pub slice_bounds-opener_in-start : goal.slice_bounds-opener_in-start
-slice_bounds-opener_in-start c = omega (arith, step_fits _ _ _ _ _ _ ((sym c.step.ensures ∙ c.in-Record.is)))
+unfolding step_of
+slice_bounds-opener_in-start c = omega (arith, step_fits _ _ _ _ _ _ ((let h : (scan_of c.args.s.now c.args.at).step ≡ Record c.in-Record.kind c.in-Record.index c.in-Record.from c.in-Record.len c.in-Record.next = sym c.step.ensures ∙ c.in-Record.is in h)))
 
 pub slice_bounds-opener_in-end : goal.slice_bounds-opener_in-end
-slice_bounds-opener_in-end c = omega (arith, step_fits _ _ _ _ _ _ ((sym c.step.ensures ∙ c.in-Record.is)))
+unfolding step_of
+slice_bounds-opener_in-end c = omega (arith, step_fits _ _ _ _ _ _ ((let h : (scan_of c.args.s.now c.args.at).step ≡ Record c.in-Record.kind c.in-Record.index c.in-Record.from c.in-Record.len c.in-Record.next = sym c.step.ensures ∙ c.in-Record.is in h)))
 
 pub opener_in-requires : goal.opener_in-requires
-opener_in-requires c = role_of_lem _ _ (kind_lent _ _ _ _ _ _ ((sym c.step.ensures ∙ c.in-Record.is))) (sym c.nesting_role.ensures ∙ c.in-Opens.is)
+unfolding step_of
+opener_in-requires c = role_of_lem _ _ (kind_lent _ _ _ _ _ _ ((let h : (scan_of c.args.s.now c.args.at).step ≡ Record c.in-Record.kind c.in-Record.index c.in-Record.from c.in-Record.len c.in-Record.next = sym c.step.ensures ∙ c.in-Record.is in h))) (sym c.nesting_role.ensures ∙ c.in-Opens.is)
 
 pub returns-in-Opens : goal.returns-in-Opens
-returns-in-Opens c = c.opener_in.ensures ∙ rw (opener_record _ _ _ _ _ _ ((sym c.step.ensures ∙ c.in-Record.is)), eq-eqb _ _ c.if-index-at.false, sym c.nesting_role.ensures ∙ c.in-Opens.is)
+unfolding step_of
+returns-in-Opens c = c.opener_in.ensures ∙ rw (opener_record _ _ _ _ _ _ ((let h : (scan_of c.args.s.now c.args.at).step ≡ Record c.in-Record.kind c.in-Record.index c.in-Record.from c.in-Record.len c.in-Record.next = sym c.step.ensures ∙ c.in-Record.is in h)), eq-eqb _ _ c.if-index-at.false, sym c.nesting_role.ensures ∙ c.in-Opens.is)
 
 pub returns-in-Closes : goal.returns-in-Closes
-returns-in-Closes c = rw (c.at-in-Closes.ensures, opener_record _ _ _ _ _ _ ((sym c.step.ensures ∙ c.in-Record.is)), eq-eqb _ _ c.if-index-at.false, sym c.nesting_role.ensures ∙ c.in-Closes.is)
+unfolding step_of
+returns-in-Closes c = rw (c.at-in-Closes.ensures, opener_record _ _ _ _ _ _ ((let h : (scan_of c.args.s.now c.args.at).step ≡ Record c.in-Record.kind c.in-Record.index c.in-Record.from c.in-Record.len c.in-Record.next = sym c.step.ensures ∙ c.in-Record.is in h)), eq-eqb _ _ c.if-index-at.false, sym c.nesting_role.ensures ∙ c.in-Closes.is)
 
 pub returns-in-Neither : goal.returns-in-Neither
-returns-in-Neither c = rw (c.at-in-Neither.ensures, opener_record _ _ _ _ _ _ ((sym c.step.ensures ∙ c.in-Record.is)), eq-eqb _ _ c.if-index-at.false, sym c.nesting_role.ensures ∙ c.in-Neither.is)
+unfolding step_of
+returns-in-Neither c = rw (c.at-in-Neither.ensures, opener_record _ _ _ _ _ _ ((let h : (scan_of c.args.s.now c.args.at).step ≡ Record c.in-Record.kind c.in-Record.index c.in-Record.from c.in-Record.len c.in-Record.next = sym c.step.ensures ∙ c.in-Record.is in h)), eq-eqb _ _ c.if-index-at.false, sym c.nesting_role.ensures ∙ c.in-Neither.is)

@@ -1,0 +1,13 @@
+-- `record_words::data_words::constant` meets its contract.
+use mathlib.Core.Path.{refl}
+use Rattle.record_words.proofs.data_words.constant.Goals as goal
+
+pub returns : goal.returns
+returns c = (
+  refl,
+  rw (
+    c.truth.ensures,
+    c.variant_number.ensures,
+    c.variant_value.ensures,
+  ),
+)
