@@ -106,6 +106,14 @@ pub record Yields (s : List ℕ) (start : ℕ) (opens : Chain) (ends_of : List �
   pub turn : Turn s start opens ends_of n at c
   pub yields : c.step ≡ N.Record kind index from len next
 
+-- both, by what the step ensures
+pub turned : {s : List ℕ} {start : ℕ} {opens : Chain} {ends_of : List ℕ} {n : Counts} {at : ℕ} {c : Scan} → Checking s start opens ends_of n at → c ≡ scan_of s at → Turn s start opens ends_of n at c
+turned inv scan = record { inv = inv; scan = scan }
+
+pub yielded : {s : List ℕ} {start : ℕ} {opens : Chain} {ends_of : List ℕ} {n : Counts} {at : ℕ} {c : Scan} {kind index from len next : ℕ} →
+    Checking s start opens ends_of n at → c ≡ scan_of s at → c.step ≡ N.Record kind index from len next → Yields s start opens ends_of n at c kind index from len next
+yielded inv scan yields = record { turn = turned inv scan; yields = yields }
+
 -- the answer, by the verdict and the counts
 refusing : (s : List ℕ) (start : ℕ) (x : Refusal) → Refused x ≡ verdict_from (read_of s start) [] → C.Refused x ≡ check_of s start
 unfolding check_of
@@ -157,6 +165,12 @@ module _ {s : List ℕ} {start : ℕ} {opens : Chain} {ends_of : List ℕ} {n : 
 
   pub found : Found s at c index from len next
   found = found_bounds s at c index from len next y.turn.scan y.yields
+
+  -- the code does it on its own bytes
+  pub acted : {a : Act} → a ≡ act_of (rec_of index (take (next - from) (drop from s))) stack → a ≡ act
+  acted e =
+      let exact : next - from ≡ len = omega (arith, found) in
+      e ∙ rw exact
 
   same_act : act ≡ act_of r stack
   same_act = act_bare r stack

@@ -3,7 +3,7 @@ use mathlib.Core.Path.{refl}
 use Rattle.record_words.proofs.put_fields.Goals as goal
 
 pub returns-in-ScopeEnd : goal.returns-in-ScopeEnd
-returns-in-ScopeEnd c = rw c.in-ScopeEnd.is (refl, refl)
+returns-in-ScopeEnd c = rw c.in-ScopeEnd.is (record { class = refl; fields = refl })
 
 pub returns-in-ObjName : goal.returns-in-ObjName
 returns-in-ObjName c = rw c.in-ObjName.is c.obj_name.ensures
@@ -63,10 +63,10 @@ pub returns-in-InlineSite : goal.returns-in-InlineSite
 returns-in-InlineSite c = rw c.in-InlineSite.is c.inline_site.ensures
 
 pub returns-in-InlineSiteEnd : goal.returns-in-InlineSiteEnd
-returns-in-InlineSiteEnd c = rw c.in-InlineSiteEnd.is (refl, refl)
+returns-in-InlineSiteEnd c = rw c.in-InlineSiteEnd.is (record { class = refl; fields = refl })
 
 pub returns-in-ProcedureEnd : goal.returns-in-ProcedureEnd
-returns-in-ProcedureEnd c = rw c.in-ProcedureEnd.is (refl, refl)
+returns-in-ProcedureEnd c = rw c.in-ProcedureEnd.is (record { class = refl; fields = refl })
 
 pub returns-in-Label : goal.returns-in-Label
 returns-in-Label c = rw c.in-Label.is c.label.ensures

@@ -3,4 +3,4 @@ use mathlib.Core.Path.{refl}
 use Rattle.record_words.proofs.code_words.separated_code.Goals as goal
 
 pub returns : goal.returns
-returns c = (refl, rw c.separated_bits.ensures)
+returns c = record { class = refl; fields = rw c.separated_bits.ensures }

@@ -3,4 +3,4 @@ use mathlib.Core.Path.{refl}
 use Rattle.record_words.proofs.code_words.trampoline.Goals as goal
 
 pub returns : goal.returns
-returns c = (refl, rw c.trampoline_number.ensures)
+returns c = record { class = refl; fields = rw c.trampoline_number.ensures }

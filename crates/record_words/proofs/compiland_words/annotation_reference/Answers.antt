@@ -3,4 +3,4 @@ use mathlib.Core.Path.{refl}
 use Rattle.record_words.proofs.compiland_words.annotation_reference.Goals as goal
 
 pub returns : goal.returns
-returns c = (refl, rw (c.has16.ensures, c.or_zero16.ensures))
+returns c = record { class = refl; fields = rw (c.has16.ensures, c.or_zero16.ensures) }

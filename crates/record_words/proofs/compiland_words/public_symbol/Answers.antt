@@ -3,4 +3,4 @@ use mathlib.Core.Path.{refl}
 use Rattle.record_words.proofs.compiland_words.public_symbol.Goals as goal
 
 pub returns : goal.returns
-returns c = (refl, rw c.public_bits.ensures)
+returns c = record { class = refl; fields = rw c.public_bits.ensures }

@@ -3,4 +3,4 @@ use mathlib.Core.Path.{refl}
 use Rattle.record_words.proofs.data_words.local.Goals as goal
 
 pub returns : goal.returns
-returns c = (refl, rw c.local_bits.ensures)
+returns c = record { class = refl; fields = rw c.local_bits.ensures }

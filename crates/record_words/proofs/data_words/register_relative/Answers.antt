@@ -6,4 +6,4 @@ use mir.Facts.{to_z-of_z}
 use Rattle.record_words.proofs.data_words.register_relative.Goals as goal
 
 pub returns : goal.returns
-returns c = (refl, rw (c.i32_word.ensures, to_z-of_z {w = w32} {z = c.args.x.offset} (search rules)))
+returns c = record { class = refl; fields = rw (c.i32_word.ensures, to_z-of_z {w = w32} {z = c.args.x.offset} (search rules)) }

@@ -3,4 +3,4 @@ use mathlib.Core.Path.{refl}
 use Rattle.record_words.proofs.data_words.thread_storage.Goals as goal
 
 pub returns : goal.returns
-returns c = (refl, rw c.truth.ensures)
+returns c = record { class = refl; fields = rw c.truth.ensures }

@@ -14,5 +14,4 @@ pub overflow_add-result : goal.overflow_add-result
 overflow_add-result c = omega (arith, c.truth.ensures, truth-most c.args.low)
 
 pub returns : goal.returns
-returns c =
-    (ap (λ (t : ℕ). t + 2 * c.args.high) c.truth.ensures, omega (arith, c.truth.ensures, truth-most c.args.low))
+returns c = record { is = ap (λ (t : ℕ). t + 2 * c.args.high) c.truth.ensures; small = omega (arith, c.truth.ensures, truth-most c.args.low) }
