@@ -34,10 +34,10 @@ pub fn four_calls(
     jumped: &mut [u64; 66],
     climbed: &mut [u64; 66],
 ) -> Returned
-    ensures replied { Replied (check_reply (check_of stream.now start)) result.check checked.old checked.new }
-    ensures replied_2 { Replied (finding_reply (walk_of stream.now start i)) result.walk walked.old walked.new }
-    ensures replied_3 { Replied (finding_reply (jump_of stream.now start i)) result.jump jumped.old jumped.new }
-    ensures replied_4 { Replied (finding_reply (climb_of stream.now i)) result.climb climbed.old climbed.new }
+    ensures checks { Replied (check_reply (check_of stream.now start)) result.check checked.old checked.new }
+    ensures walks { Replied (finding_reply (walk_of stream.now start i)) result.walk walked.old walked.new }
+    ensures jumps { Replied (finding_reply (jump_of stream.now start i)) result.jump jumped.old jumped.new }
+    ensures climbs { Replied (finding_reply (climb_of stream.now i)) result.climb climbed.old climbed.new }
     ensures condition3 { Condition3 stream.now start i result.check (call result.walk walked.new) (call result.jump jumped.new) (call result.climb climbed.new) }
 {
     let check = super::mitrelilac_check(stream, start, checked);

@@ -24,16 +24,14 @@ ghost use Rattle.mitrelilac.specs.Exported.{call, SumsUp};
 use records::Decoded;
 
 // One step from a position. End: 0, position. A record: 1, index, where its bytes start, how many they are, next position.
-#[unsafe(no_mangle)]
-pub extern "C" fn mitrelilac_step(stream: &[u8], position: usize, out: &mut [u64; 5]) -> u32
+pub fn mitrelilac_step(stream: &[u8], position: usize, out: &mut [u64; 5]) -> u32
     ensures { Replied (step_reply (step_of stream.now position)) result out.old out.new }
 {
     reply::operation::reply_step(iter::step(stream, position), out)
 }
 
 // The kind of a record, 1 if it opens a scope, 1 if it closes one. Never refuses.
-#[unsafe(no_mangle)]
-pub extern "C" fn mitrelilac_kind(rec: &[u8], out: &mut [u64; 3]) -> u32
+pub fn mitrelilac_kind(rec: &[u8], out: &mut [u64; 3]) -> u32
     ensures { Replied (kind_reply (raw_kind rec.now)) result out.old out.new }
 {
     let kind = constants::kind::raw_kind(rec);
@@ -44,8 +42,7 @@ pub extern "C" fn mitrelilac_kind(rec: &[u8], out: &mut [u64; 3]) -> u32
 }
 
 // A record decoded: the number of its class, the bytes consumed, and its fields.
-#[unsafe(no_mangle)]
-pub extern "C" fn mitrelilac_decode(rec: &[u8], out: &mut [u64; 24]) -> u32
+pub fn mitrelilac_decode(rec: &[u8], out: &mut [u64; 24]) -> u32
     ensures { Replied (decode_reply (decode rec.now)) result out.old out.new }
 {
     match symbol::decode(rec) {
@@ -58,24 +55,21 @@ pub extern "C" fn mitrelilac_decode(rec: &[u8], out: &mut [u64; 24]) -> u32
 }
 
 // The name of a record: 1, where it starts, how long it is; 0, 0, 0 where there is none.
-#[unsafe(no_mangle)]
-pub extern "C" fn mitrelilac_name(rec: &[u8], out: &mut [u64; 3]) -> u32
+pub fn mitrelilac_name(rec: &[u8], out: &mut [u64; 3]) -> u32
     ensures { Replied (name_reply (name_of rec.now)) result out.old out.new }
 {
     reply::operation::reply_name(symbol::name::name(rec), out)
 }
 
 // The entry k of a register list, from 0 on: the register, where its name starts, how long it is.
-#[unsafe(no_mangle)]
-pub extern "C" fn mitrelilac_register_entry(rec: &[u8], k: usize, out: &mut [u64; 3]) -> u32
+pub fn mitrelilac_register_entry(rec: &[u8], k: usize, out: &mut [u64; 3]) -> u32
     ensures { Replied (entry_reply (register_entry rec.now k)) result out.old out.new }
 {
     reply::operation::reply_entry(symbol::register_entry::register_entry(rec, k), out)
 }
 
 // The nesting check from a start: records read and their bytes, fillers passed over and theirs, openers, deepest nesting.
-#[unsafe(no_mangle)]
-pub extern "C" fn mitrelilac_check(stream: &[u8], start: usize, out: &mut [u64; 6]) -> u32
+pub fn mitrelilac_check(stream: &[u8], start: usize, out: &mut [u64; 6]) -> u32
     ensures replied { Replied (check_reply (check_of stream.now start)) result out.old out.new }
     ensures sums_up { SumsUp stream.now start (call result out.new) }
 {
@@ -84,8 +78,7 @@ pub extern "C" fn mitrelilac_check(stream: &[u8], start: usize, out: &mut [u64; 
 
 // The scopes that enclose the record at i, by steps from a start: the number of records read, how many scopes there are, and 64 places
 // that list them, the outermost first, 0 behind them.
-#[unsafe(no_mangle)]
-pub extern "C" fn mitrelilac_walk(stream: &[u8], start: usize, i: usize, out: &mut [u64; 66]) -> u32
+pub fn mitrelilac_walk(stream: &[u8], start: usize, i: usize, out: &mut [u64; 66]) -> u32
     ensures { Replied (finding_reply (walk_of stream.now start i)) result out.old out.new }
 {
     let walked = walk::walk(stream, start, i);
@@ -95,8 +88,7 @@ pub extern "C" fn mitrelilac_walk(stream: &[u8], start: usize, i: usize, out: &m
 }
 
 // As walking, but scopes that close before i are jumped over.
-#[unsafe(no_mangle)]
-pub extern "C" fn mitrelilac_jump(stream: &[u8], start: usize, i: usize, out: &mut [u64; 66]) -> u32
+pub fn mitrelilac_jump(stream: &[u8], start: usize, i: usize, out: &mut [u64; 66]) -> u32
     ensures { Replied (finding_reply (jump_of stream.now start i)) result out.old out.new }
 {
     let jumped = jump::jump(stream, start, i);
@@ -106,8 +98,7 @@ pub extern "C" fn mitrelilac_jump(stream: &[u8], start: usize, i: usize, out: &m
 }
 
 // The scopes that enclose the opener at i, by parent fields: the number of links, then as walking, but the innermost first.
-#[unsafe(no_mangle)]
-pub extern "C" fn mitrelilac_climb(stream: &[u8], i: usize, out: &mut [u64; 66]) -> u32
+pub fn mitrelilac_climb(stream: &[u8], i: usize, out: &mut [u64; 66]) -> u32
     ensures { Replied (finding_reply (climb_of stream.now i)) result out.old out.new }
 {
     let climbed = climb::climb(stream, i);
