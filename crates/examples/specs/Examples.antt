@@ -1,7 +1,7 @@
 -- The proved examples of document 01, line by line. Each holds by computing the definitions.
 use Rattle.std.specs.Prelude.{ℕ, ◌≡◌, refl, false, List, [], ◌∷◌, negsuc, replicate}
 use Rattle.std.proofs.Common.{ap, ◌∙◌, inl, inr, arith}
-use Rattle.std.specs.Borrow.{MutBor}
+use Rattle.std.specs.Borrow.{Bor}
 use Rattle.common.specs.Reader.{value, refused, refusal, ◌>>=◌, uint, sint}
 use Rattle.common.specs.Bytes.{le, signed}
 use Rattle.names.specs.declared.Part.{Part}
@@ -147,7 +147,7 @@ part start len = record { start = start; len = len }
 
 -- every name that is given out of these bytes is this one
 abbrev Names : List ℕ → List ℕ → Type 0
-Names bytes name = (lent given : MutBor (List ℕ)) → lent.now ≡ bytes → IsName lent (name_of bytes) given → given.now ≡ name
+Names bytes name = (lent given : Bor (List ℕ)) → lent.now ≡ bytes → IsName lent (name_of bytes) given → given.now ≡ name
 
 -- P10 `07 11 00 10 00 00 01 80 FF FF 6B 00`: type 0x1000, -1, name k.
 abbrev record10 : List ℕ

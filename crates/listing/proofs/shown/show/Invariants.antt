@@ -1,0 +1,13 @@
+use mathlib.Core.Path.{◌≡◌, refl, sym, ◌∙◌}
+use mathlib.Core.List.{map}
+use Prim.Native.Nat.{◌≤◌, ◌-◌}
+use lib.ListN.{length, length-map, get_or-map}
+use lib.Seq.{paste, paste-zero}
+use Rattle.listing.specs.Listing.{shown_byte}
+use Rattle.listing.proofs.shown.show.Given as goal
+
+abbrev pub invariant-loop-i : goal.invariant-loop-i
+invariant-loop-i l = (length l.out ≡ length l.initial.out) × (l.i ≤ length l.name) × (l.out ≡ paste l.initial.out l.at (map shown_byte l.name) l.i)
+
+abbrev pub decreases-loop-i : goal.decreases-loop-i
+decreases-loop-i l = length l.name - l.i
