@@ -2,7 +2,6 @@
 use native.Mathlib.Omega.{arith}
 use mathlib.Core.Path.{◌∙◌, ap}
 use Prim.Native.Nat.{ℕ, ◌/◌}
-use Rattle.constants.specs.Table.{code_of}
 use Rattle.constants.proofs.Codes.{number_of_code, class_number_small}
 use Rattle.constants.proofs.class_number.Goals as goal
 

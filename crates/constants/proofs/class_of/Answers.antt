@@ -1,7 +1,6 @@
 -- `constants::class_of` meets its contract.
 use mathlib.Core.Path.{sym, ◌∙◌, ap}
 use Prim.Native.Nat.{ℕ, ◌/◌}
-use Rattle.constants.specs.Table.{code_of}
 use Rattle.constants.proofs.Codes.{class_in_arm, class_has_arm}
 use Rattle.constants.proofs.class_of.Goals as goal
 

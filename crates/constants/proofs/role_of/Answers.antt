@@ -2,7 +2,6 @@
 use native.Mathlib.Omega.{arith}
 use Prim.Native.Nat.{ℕ, ◌%◌}
 use mathlib.Core.Path.{sym, ◌∙◌, ap}
-use Rattle.constants.specs.Table.{code_of}
 use Rattle.constants.proofs.Codes.{role_number_small, role_in_arm}
 use Rattle.constants.proofs.role_of.Goals as goal
 

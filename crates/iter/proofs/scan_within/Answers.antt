@@ -1,8 +1,6 @@
 -- `iter::scan_within` meets its contract. The invariant says that the step comes by p; the measure is what is left of the stream.
 use mathlib.Core.Path.{sym, ◌∙◌}
-use Prim.Native.Nat.{◌-◌}
 use native.Mathlib.Omega.{arith}
-use Rattle.iter.specs.Step.{frame_at}
 use Rattle.iter.proofs.Laws.{whole_fits, comes_first, at_nothing, at_refused, at_record, at_filler}
 use Rattle.iter.proofs.scan_within.Goals as goal
 

@@ -1,7 +1,7 @@
 use Prim.Native.Nat.{suc, ◌-◌}
 use lib.ListN.{length}
-use Rattle.iter.specs.Step.{frame_at, scan_from}
-use Rattle.iter.proofs.Laws.{Comes, Fits, whole_fits, comes_first, at_nothing, at_refused, at_record, at_filler}
+use Rattle.iter.specs.Step.{scan_from}
+use Rattle.iter.proofs.Laws.{Comes}
 use Rattle.iter.proofs.scan_within.Given as goal
 
 abbrev pub invariant-loop-e : goal.invariant-loop-e

@@ -1,5 +1,4 @@
 -- `names::before_zero` meets its contract. The invariant: what stands before the first zero from `at` on is what was passed, and what stands before it from `i` on.
-use Prim.Native.Nat.{◌-◌}
 use native.Mathlib.Omega.{arith}
 use Rattle.names.proofs.Run.{run_end, run_zero, run_more}
 use Rattle.names.proofs.before_zero.Goals as goal

@@ -11,12 +11,11 @@ returns-in-Refused c =
     ∙ c.loop-left.invariant.1
 
 pub loop-left-preserved : goal.loop-left-preserved
-loop-left-preserved c =
-    (
-      search rules,
-      skip-more _ _ _ _ c.loop-left-test.true (sym (ap entry_of c.in-Value.is) ∙ c.parse_entry.ensures)
-          ∙ c.loop-left.invariant.1,
-    )
+loop-left-preserved c = (
+  search rules,
+  skip-more _ _ _ _ c.loop-left-test.true (sym (ap entry_of c.in-Value.is) ∙ c.parse_entry.ensures)
+      ∙ c.loop-left.invariant.1,
+)
 
 pub returns : goal.returns
 returns c = skip-none _ _ _ _ c.loop-left-test.false ∙ c.loop-left.invariant.1

@@ -1,5 +1,5 @@
 use Prim.Native.Nat.{◌≤◌}
-use mathlib.Core.Path.{◌≡◌, sym, ap, ◌∙◌}
+use mathlib.Core.Path.{◌≡◌}
 use Rattle.registers.specs.Entries.{skip}
 use Rattle.registers.proofs.entry.skip_entries.Given as goal
 
