@@ -9,7 +9,7 @@ pub put_refused-requires : goal.put_refused-requires
 put_refused-requires c = omega (arith, refused_most 5 0)
 
 pub returns-then-s-gt-MAX_LISTED : goal.returns-then-s-gt-MAX_LISTED
-returns-then-s-gt-MAX_LISTED c = record { prefix_len = counts _ _ _ _ c.Put-refused.ensures; puts = same_text _ _ _ _ _ _ (too_long _ c.if-s-gt-MAX_LISTED.true) c.Put-refused.ensures }
+returns-then-s-gt-MAX_LISTED c = record { prefix_len = counts _ _ _ _ c.put_refused.ensures; puts = same_text _ _ _ _ _ _ (too_long _ c.if-s-gt-MAX_LISTED.true) c.put_refused.ensures }
 
 pub returns : goal.returns
 returns c = record { prefix_len = counts _ _ _ _ c.put_lines.ensures; puts = same_text _ _ _ _ _ _ (not_too_long _ c.if-s-gt-MAX_LISTED.false) c.put_lines.ensures }

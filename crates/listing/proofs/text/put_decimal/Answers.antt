@@ -8,7 +8,10 @@ use Rattle.listing.proofs.Writing.{same_text}
 use Rattle.listing.proofs.text.put_decimal.Goals as goal
 
 pub put-requires : goal.put-requires
-put-requires c = omega (arith, ap length ((let h : take c.decimal-k.result c.decimal-k.new.1.0 ≡ decimal c.args.n = c.decimal-k.ensures.1.1 ∙ decimal_is _ _ c.decimal-k.ensures.1.0 (omega arith) in h)))
+put-requires c =
+    let is : take c.decimal-k.result c.decimal-k.new.out ≡ decimal c.args.n =
+        c.decimal-k.ensures.digits ∙ decimal_is _ _ c.decimal-k.ensures.len (omega arith) in
+    omega (arith, ap length is)
 
 pub returns : goal.returns
-returns c = same_text _ _ _ _ _ _ ((let h : take c.decimal-k.result c.decimal-k.new.1.0 ≡ decimal c.args.n = c.decimal-k.ensures.1.1 ∙ decimal_is _ _ c.decimal-k.ensures.1.0 (omega arith) in h)) c.put.ensures
+returns c = same_text _ _ _ _ _ _ (c.decimal-k.ensures.digits ∙ decimal_is _ _ c.decimal-k.ensures.len (omega arith)) c.put.ensures
