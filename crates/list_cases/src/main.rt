@@ -1,33 +1,33 @@
 // Lists one stream after another, each behind its length of four bytes on standard input and under a line with its number.
 #![tactic(auto)]
 
+use std::io::{self, Read, Write};
+
 // Lists the case that the input goes on with, and answers whether there was one.
-fn list_case(number: u64) -> bool {
+fn list_case<R: Read>(rt: &HostRuntime, reader: &mut R, number: u64) -> io::Result<bool> {
     let mut length = [0u8; 4];
-    if io::read_full(0, &mut length) < 4 {
-        return false;
+    if input::read_full(reader, &mut length)? < 4 {
+        return Ok(false);
     }
     let len = common::u32_at(&length, 0) as usize;
     let mut stream = listing::stream_room();
     if stream.len() < len {
-        return false;
+        return Ok(false);
     }
-    let n = io::read_full(0, &mut stream[..len]);
-    io::write_all(1, b"case ");
-    io::print_decimal(1, number);
-    io::write_all(1, b"\n");
+    let n = input::read_full(reader, &mut stream[..len])?;
+    println!(rt; "case {number}")?;
     let mut text = [0u8; listing::TEXT_ROOM];
     let written = listing::put_listing(&stream[..n], &mut text);
-    io::write_all(1, &text[..written]);
-    true
+    io::writer(rt).write_all(&text[..written])?;
+    Ok(true)
 }
 
-fn main() {
-    let mut number: u64 = 0;
-    while number < u64::MAX {
-        number += 1;
-        if !list_case(number) {
-            return;
+fn main(rt: HostRuntime) -> io::Result<()> {
+    let mut reader = rt.reader();
+    for number in 1..u64::MAX {
+        if !list_case(&rt, &mut reader, number)? {
+            break;
         }
     }
+    Ok(())
 }

@@ -11,6 +11,8 @@ ghost use Rattle.std.specs.Prelude.{◌≡◌, length};
 
 use list::Tally;
 
+use std::io::{self, Read};
+
 // A block of the list. The `ensures` gives only the length, which lending it as a slice needs.
 fn block_room() -> [u8; 262144]
     ensures { 262144 ≡ length result }
@@ -19,38 +21,35 @@ fn block_room() -> [u8; 262144]
 }
 
 // Replays one block of the list; an input that ends, ends the list.
-fn replay_block(tally: Tally) -> Tally {
+fn replay_block<R: Read>(reader: &mut R, tally: Tally) -> io::Result<Tally> {
     let mut block = block_room();
-    let n = io::read_full(0, &mut block);
+    let n = input::read_full(reader, &mut block)?;
     if n == 0 {
-        return tally.ended();
+        return Ok(tally.ended());
     }
-    list::replay(&block[..n], tally)
+    Ok(list::replay(&block[..n], tally))
 }
 
 // No list is so long that the turns run out; they only show that the loop ends.
-fn replay_all() -> Tally {
+fn replay_all<R: Read>(reader: &mut R) -> io::Result<Tally> {
     let mut tally = Tally::new();
-    let mut turns = u64::MAX;
-    while turns > 0 {
-        turns -= 1;
-        tally = replay_block(tally);
+    for _ in 0..u64::MAX {
+        tally = replay_block(reader, tally)?;
         if tally.over {
-            return tally;
+            break;
         }
     }
-    tally
+    Ok(tally)
 }
 
-fn main() {
-    let tally = replay_all();
-    io::print_decimal(1, tally.cases);
-    io::write_all(1, b" cases, ");
-    io::print_decimal(1, tally.differences);
-    io::write_all(1, b" differences");
-    if 0 < tally.differences {
-        io::write_all(1, b", the first in case ");
-        io::print_decimal(1, tally.first);
+fn main(rt: HostRuntime) -> io::Result<()> {
+    let tally = replay_all(&mut rt.reader())?;
+    let cases = tally.cases;
+    let differences = tally.differences;
+    print!(rt; "{cases} cases, {differences} differences")?;
+    if 0 < differences {
+        let first = tally.first;
+        print!(rt; ", the first in case {first}")?;
     }
-    io::write_all(1, b"\n");
+    println!(rt)
 }
