@@ -30,7 +30,7 @@ use Rattle.words.specs.Written.{written}
 use Rattle.reply.specs.Reply.{Reply, Replied, answers, refusal_reply, chain_reply}
 use Rattle.reply.specs.Replies.{check_reply, finding_reply}
 use Rattle.mitrelilac.proofs.Replies.{replied_as}
-use Rattle.mitrelilac.specs.Exported.{Call, call, SumsUp, count, scopes, chain_words, BothAnswer, BothRefuse, ClimbsThem, Agreement, Condition3}
+use Rattle.mitrelilac.specs.Exported.{Call, call, SumsUp, count, scopes, chain_words, BothAnswer, BothRefuse, ClimbsThem, Condition3}
 
 -- the check returns 0 only where it passes
 module _ (s : List ℕ) (start : ℕ) {returned : ℕ} {before after : List ℕ} (g : Replied (check_reply (check_of s start)) returned before after) where

@@ -1,4 +1,4 @@
-// The library that C links: the operations behind plain calls on lent bytes and numbers.
+// The library for C: the operations behind plain calls on lent bytes and numbers. Crate mitrelilac_c exports them.
 //
 // A call that answers returns 0 and writes its words to those lent to it, from place 0 on; one that refuses returns the number of the
 // refusal and writes two, position and detail. Every other word stays as it was. No call keeps a reference or allocates.

@@ -10,7 +10,6 @@ mod parts;
 ghost use Rattle.std.specs.Prelude.{◌≡◌, length};
 
 use list::Tally;
-
 use std::io::{self, Read};
 
 // A block of the list. The `ensures` gives only the length, which lending it as a slice needs.

@@ -9,12 +9,12 @@ pub returns : goal.returns
 returns c =
     let a : Answers = record { checked = c.check-checked.result; walked = c.walk-walked.result; jumped = c.jump-jumped.result; climbed = c.climb-climbed.result } in
     let e : a ≡ answers_of c.args.s.now c.args.start c.args.i =
-        (λ j. record {
-          checked = c.check-checked.ensures.value j;
-          walked = c.walk-walked.ensures j;
-          jumped = c.jump-jumped.ensures j;
-          climbed = c.climb-climbed.ensures j;
-        }) in
+    (λ j. record {
+      checked = c.check-checked.ensures.value j;
+      walked = c.walk-walked.ensures j;
+      jumped = c.jump-jumped.ensures j;
+      climbed = c.climb-climbed.ensures j;
+    }) in
     record {
       value = e;
       condition3 = subst (λ (x : Answers). Condition3 c.args.s.now c.args.start c.args.i x) (sym e) (condition3 c.args.s.now c.args.start c.args.i);

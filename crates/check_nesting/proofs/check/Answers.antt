@@ -4,7 +4,6 @@ use native.Mathlib.Omega.{arith}
 use Rattle.iter.specs.declared.Scan.{Scan}
 use Rattle.iter.proofs.Records.{kind_lent}
 use Rattle.check_nesting.specs.declared.stack.Stack.{Stack}
-use Rattle.check_nesting.specs.declared.Checked.{Checked}
 use Rattle.check_nesting.specs.declared.Checked.TheVariants.{Refused}
 use Rattle.check_nesting.specs.Check.{check_of}
 use Rattle.check_nesting.proofs.Checks.{checking_first, turned, yielded, acted, scanned, found, push_room, pop_room, at_refused, at_end, go_stay, go_push, go_pop, at_refusing}
@@ -28,7 +27,7 @@ innermost-requires c = c.loop-e.invariant.most
 pub returns-in-End : goal.returns-in-End
 returns-in-End c =
     let e : c.at_end.result ≡ check_of c.args.s.now c.args.start =
-        at_end (turned c.loop-e.invariant c.scan_at-c.ensures) _ c.in-End.is (λ st l i. c.at_end.ensures st l (i ∙ sym c.innermost.ensures)) in
+    at_end (turned c.loop-e.invariant c.scan_at-c.ensures) _ c.in-End.is (λ st l i. c.at_end.ensures st l (i ∙ sym c.innermost.ensures)) in
     record { value = e; adds_up = sums _ _ _ e }
 
 pub returns-in-Refused : goal.returns-in-Refused

@@ -1,6 +1,6 @@
-use Prim.Native.Nat.{ℕ, ◌-◌, ◌<◌}
+use Prim.Native.Nat.{◌-◌}
 use lib.ListN.{length}
-use Rattle.check_nesting.proofs.Checks.{Checking, checking_first, Turn, Yields, scanned, found, act, push_room, pop_room, at_refused, at_end, go_stay, go_push, go_pop, at_refusing}
+use Rattle.check_nesting.proofs.Checks.{Checking}
 use Rattle.check_nesting.proofs.check.Given as goal
 
 abbrev pub invariant-loop-e : goal.invariant-loop-e

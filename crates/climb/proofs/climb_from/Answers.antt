@@ -1,6 +1,5 @@
 -- `climb::climb_from` meets its contract. The loop's invariant: the climb from the opener ends as the climb from here does.
 use native.Mathlib.Omega.{arith}
-use Prim.Native.Nat.{◌-◌}
 use mathlib.Core.Path.{sym, ◌∙◌}
 use Rattle.climb.proofs.Openers.{opener_read}
 use Rattle.climb.proofs.Climbs.{climbing_first, at_top, at_full, at_above, at_missing, going_up}

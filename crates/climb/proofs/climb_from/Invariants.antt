@@ -1,5 +1,5 @@
 use Prim.Native.Nat.{◌-◌}
-use Rattle.climb.proofs.Climbs.{Climbing, climbing_first, at_top, at_full, at_above, at_missing, going_up}
+use Rattle.climb.proofs.Climbs.{Climbing}
 use Rattle.climb.proofs.climb_from.Given as goal
 
 abbrev pub invariant-loop-parent : goal.invariant-loop-parent

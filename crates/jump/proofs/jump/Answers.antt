@@ -1,6 +1,6 @@
 -- `jump::jump` meets its contract. The loop's invariant: the search from the start ends as the search from here does.
 use native.Mathlib.Omega.{arith}
-use Prim.Native.Nat.{◌-◌, ◌<◌}
+use Prim.Native.Nat.{◌<◌}
 use mathlib.Core.Path.{◌≡◌, sym, ◌∙◌}
 use Rattle.iter.specs.Step.{scan_of, step_of}
 use Rattle.iter.specs.declared.Next.TheVariants.{Record}

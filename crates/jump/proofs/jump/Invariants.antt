@@ -1,6 +1,6 @@
-use Prim.Native.Nat.{◌-◌, ◌<◌}
+use Prim.Native.Nat.{◌-◌}
 use lib.ListN.{length}
-use Rattle.jump.proofs.Jumps.{Jumping, at_end, at_refused, going_stay, going_push, over, going_over, at_miss, at_found, at_refusing}
+use Rattle.jump.proofs.Jumps.{Jumping}
 use Rattle.jump.proofs.jump.Given as goal
 
 abbrev pub invariant-loop-e : goal.invariant-loop-e

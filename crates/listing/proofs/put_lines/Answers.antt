@@ -1,6 +1,5 @@
 -- `listing::put_lines` meets its contract. The loop's invariant is `Listing`; the measure is the number of bytes that are left.
 use mathlib.Core.Path.{sym, ◌∙◌}
-use Prim.Native.Nat.{◌-◌}
 use native.Mathlib.Omega.{arith}
 use Rattle.listing.proofs.Lines.{refused_most}
 use Rattle.listing.proofs.Listings.{stepped, begins, at_end, at_refused, line-room, after_line}

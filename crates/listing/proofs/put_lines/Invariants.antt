@@ -1,6 +1,6 @@
 use Prim.Native.Nat.{◌-◌}
 use lib.ListN.{length}
-use Rattle.listing.proofs.Listings.{Listing, stepped, begins, at_end, at_refused, line-room, after_line}
+use Rattle.listing.proofs.Listings.{Listing}
 use Rattle.listing.proofs.put_lines.Given as goal
 
 abbrev pub invariant-loop-e : goal.invariant-loop-e

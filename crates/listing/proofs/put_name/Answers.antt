@@ -12,7 +12,7 @@ use Rattle.listing.proofs.put_name.Goals as goal
 pub show-requires : goal.show-requires
 show-requires c =
     let is : map shown_byte c.name_bytes.result.now ≡ name_shown c.args.bytes.now (name_of c.args.bytes.now) =
-        shown-name _ _ _ _ _ _ c.name.ensures c.in-Answer.is c.in-Some.is c.name_bytes.ensures in
+    shown-name _ _ _ _ _ _ c.name.ensures c.in-Answer.is c.in-Some.is c.name_bytes.ensures in
     omega (arith, length-map c.name_bytes.result.now shown_byte, ap length is)
 
 pub returns-in-Some : goal.returns-in-Some

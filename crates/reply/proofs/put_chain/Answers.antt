@@ -1,7 +1,6 @@
 -- `reply::put_chain` meets its contract. The loop's invariant: k places of the chain are stored.
 use native.Mathlib.Omega.{arith}
 use mathlib.Core.Path.{◌∙◌}
-use Prim.Native.Nat.{◌-◌}
 use Rattle.reply.proofs.Chains.{storing_none, storing_more, storing_length, storing_all}
 use Rattle.reply.proofs.put_chain.Goals as goal
 

@@ -1,5 +1,5 @@
 use Prim.Native.Nat.{◌-◌}
-use Rattle.reply.proofs.Chains.{Storing, storing_none, storing_more, storing_length, storing_all}
+use Rattle.reply.proofs.Chains.{Storing}
 use Rattle.reply.proofs.put_chain.Given as goal
 
 abbrev pub invariant-loop-k : goal.invariant-loop-k

@@ -1,6 +1,6 @@
 -- `walk::walk` meets its contract. The loop's invariant: the walk from the start ends as the walk from here does.
 use native.Mathlib.Omega.{arith}
-use Prim.Native.Nat.{◌-◌, ◌<◌}
+use Prim.Native.Nat.{◌<◌}
 use mathlib.Core.Path.{◌≡◌, sym, ◌∙◌}
 use Rattle.iter.specs.Step.{scan_of, step_of}
 use Rattle.iter.specs.declared.Next.TheVariants.{Record}

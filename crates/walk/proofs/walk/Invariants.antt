@@ -1,6 +1,6 @@
-use Prim.Native.Nat.{◌-◌, ◌<◌}
+use Prim.Native.Nat.{◌-◌}
 use lib.ListN.{length}
-use Rattle.walk.proofs.Walks.{Walking, push_room, pop_room, at_end, at_refused, going_stay, going_push, going_pop, at_found, at_refusing}
+use Rattle.walk.proofs.Walks.{Walking}
 use Rattle.walk.proofs.walk.Given as goal
 
 abbrev pub invariant-loop-e : goal.invariant-loop-e

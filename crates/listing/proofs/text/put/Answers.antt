@@ -2,7 +2,6 @@
 -- measure is the number of bytes that are left.
 use borrow.Author.Rules.{rules}
 use mathlib.Core.Path.{refl}
-use Prim.Native.Nat.{◌-◌}
 use native.Mathlib.Omega.{arith}
 use lib.Seq.{paste-zero}
 use Rattle.listing.proofs.Writing.{one_more, all_put}

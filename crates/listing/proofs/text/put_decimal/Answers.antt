@@ -10,7 +10,7 @@ use Rattle.listing.proofs.text.put_decimal.Goals as goal
 pub put-requires : goal.put-requires
 put-requires c =
     let is : take c.decimal-k.result c.decimal-k.new.out ≡ decimal c.args.n =
-        c.decimal-k.ensures.digits ∙ decimal_is _ _ c.decimal-k.ensures.len (omega arith) in
+    c.decimal-k.ensures.digits ∙ decimal_is _ _ c.decimal-k.ensures.len (omega arith) in
     omega (arith, ap length is)
 
 pub returns : goal.returns

@@ -10,7 +10,7 @@ use Rattle.listing.proofs.text.put_kind.Goals as goal
 pub put-requires : goal.put-requires
 put-requires c =
     let is : take c.hex-k.result c.hex-k.new.out ≡ last_digits 16 4 c.args.kind =
-        c.hex-k.ensures.digits ∙ hex_is _ _ c.hex-k.ensures.len (omega arith) in
+    c.hex-k.ensures.digits ∙ hex_is _ _ c.hex-k.ensures.len (omega arith) in
     omega (arith, ap length is)
 
 pub returns : goal.returns

@@ -3,4 +3,4 @@ use mathlib.Core.Path.{refl}
 use Rattle.record_words.proofs.code_words.thunk.Goals as goal
 
 pub returns : goal.returns
-returns c = record { class = refl; fields = rw ( c.or_zero32.ensures, c.or_zero32-2.ensures, c.thunk_number.ensures, c.thunk_value.ensures, c.target_start.ensures, c.target_len.ensures, ) }
+returns c = record { class = refl; fields = rw (c.or_zero32.ensures, c.or_zero32-2.ensures, c.thunk_number.ensures, c.thunk_value.ensures, c.target_start.ensures, c.target_len.ensures) }

@@ -1,4 +1,4 @@
-use Rattle.std.proofs.Common.{◌-◌, rules}
+use Rattle.std.proofs.Common.{◌-◌}
 use Rattle.replay.proofs.list.number_at.Given as goal
 
 abbrev pub invariant-loop-shift : goal.invariant-loop-shift

@@ -1,0 +1,89 @@
+// The archive that C links: the calls of crate mitrelilac under their exported names. include/mitrelilac.h is their manual.
+#![tactic(auto)]
+
+ghost use Rattle.constants.specs.Raw.{raw_kind};
+ghost use Rattle.symbol.specs.Decode.{decode};
+ghost use Rattle.symbol.specs.Name.{name_of};
+ghost use Rattle.symbol.specs.Entry.{register_entry};
+ghost use Rattle.iter.specs.Step.{step_of};
+ghost use Rattle.check_nesting.specs.Check.{check_of};
+ghost use Rattle.walk.specs.Walk.{walk_of};
+ghost use Rattle.jump.specs.Jump.{jump_of};
+ghost use Rattle.climb.specs.Climb.{climb_of};
+ghost use Rattle.reply.specs.Reply.{Replied};
+ghost use Rattle.reply.specs.Replies.{step_reply, kind_reply, decode_reply, name_reply, entry_reply, check_reply, finding_reply};
+ghost use Rattle.mitrelilac.specs.Exported.{call, SumsUp};
+
+// One step from a position. End: 0, position. A record: 1, index, where its bytes start, how many they are, next position.
+#[unsafe(no_mangle)]
+pub extern "C" fn mitrelilac_step(stream: &[u8], position: usize, out: &mut [u64; 5]) -> u32
+    ensures { Replied (step_reply (step_of stream.now position)) result out.old out.new }
+{
+    mitrelilac::mitrelilac_step(stream, position, out)
+}
+
+// The kind of a record, 1 if it opens a scope, 1 if it closes one. Never refuses.
+#[unsafe(no_mangle)]
+pub extern "C" fn mitrelilac_kind(rec: &[u8], out: &mut [u64; 3]) -> u32
+    ensures { Replied (kind_reply (raw_kind rec.now)) result out.old out.new }
+{
+    mitrelilac::mitrelilac_kind(rec, out)
+}
+
+// A record decoded: the number of its class, the bytes consumed, and its fields.
+#[unsafe(no_mangle)]
+pub extern "C" fn mitrelilac_decode(rec: &[u8], out: &mut [u64; 24]) -> u32
+    ensures { Replied (decode_reply (decode rec.now)) result out.old out.new }
+{
+    mitrelilac::mitrelilac_decode(rec, out)
+}
+
+// The name of a record: 1, where it starts, how long it is; 0, 0, 0 where there is none.
+#[unsafe(no_mangle)]
+pub extern "C" fn mitrelilac_name(rec: &[u8], out: &mut [u64; 3]) -> u32
+    ensures { Replied (name_reply (name_of rec.now)) result out.old out.new }
+{
+    mitrelilac::mitrelilac_name(rec, out)
+}
+
+// The entry k of a register list, from 0 on: the register, where its name starts, how long it is.
+#[unsafe(no_mangle)]
+pub extern "C" fn mitrelilac_register_entry(rec: &[u8], k: usize, out: &mut [u64; 3]) -> u32
+    ensures { Replied (entry_reply (register_entry rec.now k)) result out.old out.new }
+{
+    mitrelilac::mitrelilac_register_entry(rec, k, out)
+}
+
+// The nesting check from a start: records read and their bytes, fillers passed over and theirs, openers, deepest nesting.
+#[unsafe(no_mangle)]
+pub extern "C" fn mitrelilac_check(stream: &[u8], start: usize, out: &mut [u64; 6]) -> u32
+    ensures replied { Replied (check_reply (check_of stream.now start)) result out.old out.new }
+    ensures sums_up { SumsUp stream.now start (call result out.new) }
+{
+    mitrelilac::mitrelilac_check(stream, start, out)
+}
+
+// The scopes that enclose the record at i, by steps from a start: the number of records read, how many scopes there are, and 64 places
+// that list them, the outermost first, 0 behind them.
+#[unsafe(no_mangle)]
+pub extern "C" fn mitrelilac_walk(stream: &[u8], start: usize, i: usize, out: &mut [u64; 66]) -> u32
+    ensures { Replied (finding_reply (walk_of stream.now start i)) result out.old out.new }
+{
+    mitrelilac::mitrelilac_walk(stream, start, i, out)
+}
+
+// As walking, but scopes that close before i are jumped over.
+#[unsafe(no_mangle)]
+pub extern "C" fn mitrelilac_jump(stream: &[u8], start: usize, i: usize, out: &mut [u64; 66]) -> u32
+    ensures { Replied (finding_reply (jump_of stream.now start i)) result out.old out.new }
+{
+    mitrelilac::mitrelilac_jump(stream, start, i, out)
+}
+
+// The scopes that enclose the opener at i, by parent fields: the number of links, then as walking, but the innermost first.
+#[unsafe(no_mangle)]
+pub extern "C" fn mitrelilac_climb(stream: &[u8], i: usize, out: &mut [u64; 66]) -> u32
+    ensures { Replied (finding_reply (climb_of stream.now i)) result out.old out.new }
+{
+    mitrelilac::mitrelilac_climb(stream, i, out)
+}
