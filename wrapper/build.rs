@@ -1,4 +1,4 @@
-//! Links the static library: MITRELILAC_LIB names its folder, where it isn't the one to which `rt staticlib mitrelilac` writes.
+//! Links the static library: MITRELILAC_LIB names its folder, where it isn't the one to which `tools/build mitrelilac` writes.
 
 use std::env;
 use std::path::Path;

@@ -24,7 +24,7 @@ fn list_case<R: Read>(rt: &HostRuntime, reader: &mut R, number: u64) -> io::Resu
 
 fn main(rt: HostRuntime) -> io::Result<()> {
     let mut reader = rt.reader();
-    for number in 1..u64::MAX {
+    for number in 1..=u64::MAX {
         if !list_case(&rt, &mut reader, number)? {
             break;
         }
