@@ -8,19 +8,23 @@ use borrow.Author.Tests.{ltb-true, ltb-false, leb-true, leb-false}
 use lib.ListN.{length}
 use lib.Dec.{ltb, leb}
 use Rattle.common.specs.Reader.{Read, value, refused, runs_out, Reader, done, ◌>>=◌}
-use Rattle.common.proofs.Readers.{then_value, then_refused}
 use Rattle.common.proofs.Rows.{Row, tail_value, tail_refused}
 use Rattle.names.specs.Name.{symbol_name}
 use Rattle.names.proofs.Names.{name_short}
 use Rattle.names.specs.declared.Part.{Part}
 use Rattle.records.specs.declared.OptionPart.{OptionPart}
-use Rattle.records.specs.declared.OptionPart.TheVariants.{None, Some}
+use Rattle.records.specs.declared.OptionPart.TheVariants.{None}
 use Rattle.records.specs.declared.SymbolData.{SymbolData}
-use Rattle.compiland.specs.Object.{using_namespace}
-use Rattle.compiland.specs.Reference.{data_reference, procedure_reference, optional_name}
-use Rattle.compiland.proofs.Rows.{data_reference_row, procedure_reference_row}
 use Rattle.symbol.specs.Name.{name_in, answered}
 use Rattle.symbol.specs.declared.name.Named.TheVariants as N
+
+-- the layout of a class has a name at a position, of which `find` makes the answer
+abbrev pub NamedAt : (Part → OptionPart) → ℕ → (ℕ → Reader SymbolData) → Type 0
+NamedAt find at layout = (kind : ℕ) (s : List ℕ) → answered find (symbol_name kind s at) ≡ answered name_in (layout kind s 2)
+
+-- the fields of a class end at a position, and no name stands behind them
+abbrev pub EndsAt : ℕ → Reader SymbolData → Type 0
+EndsAt at layout = (s : List ℕ) → cond (ltb (length s) at) (N.Refused runs_out) (N.Answer None) ≡ answered name_in (layout s 2)
 
 module _ {m : Reader SymbolData} {to : ℕ} {s : List ℕ} (row : Row m 2 to s) where
   -- where the fields are there, what t reads behind them decides
@@ -57,19 +61,3 @@ module _ {m : Reader SymbolData} {to : ℕ} {s : List ℕ} (row : Row m 2 to s) 
       go false e =
           ap N.Answer (sym unnamed)
           ∙ ap (answered name_in) (sym (row.there (ltb-false (length s) to e) ∙ ap (λ (r : Reader SymbolData). r s to) behind))
-
--- no field stands before the name
-pub using_namespace-name : (kind : ℕ) (s : List ℕ) → answered Some (symbol_name kind s 2) ≡ answered name_in (using_namespace kind s 2)
-unfolding using_namespace
-using_namespace-name kind s = go (symbol_name kind s 2) refl
-  where
-    go : (r : Read Part) → symbol_name kind s 2 ≡ r → answered Some r ≡ answered name_in (using_namespace kind s 2)
-    go (value name next) e = ap (answered name_in) (sym (then_value (symbol_name kind) _ s 2 e))
-    go (refused x) e = ap (answered name_in) (sym (then_refused (symbol_name kind) _ s 2 e))
-
--- both sorts of references have the same name
-pub references_alike : (kind : ℕ) (s : List ℕ) → answered name_in (data_reference kind s 2) ≡ answered name_in (procedure_reference kind s 2)
-unfolding data_reference_row procedure_reference_row
-references_alike kind s =
-    sym (tested_row (data_reference_row kind s) (λ o. o) (optional_name kind) _ refl (λ o. refl))
-    ∙ tested_row (procedure_reference_row kind s) (λ o. o) (optional_name kind) _ refl (λ o. refl)
