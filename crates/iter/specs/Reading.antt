@@ -44,7 +44,7 @@ on_next s c (Refused e) on = ended c.fillers c.filler_bytes (refuses e)
 on_next s c (Record kind index start len next) on = more (rec_at s c index start len) (on next)
 
 -- The reading from a position, where at most k steps follow. (Where k runs out it ends; that `read_of` never does so early is the law
--- `read_by_lem` of proofs/Reading.antt: the reading is what its first step says, and the reading from the next position.)
+-- `read_by` of proofs/Reading.antt: the reading is what its first step says, and the reading from the next position.)
 unfoldable pub read_from : ℕ → List ℕ → ℕ → Reading
 read_from zero s at = ended 0 0 ends
 read_from (suc k) s at = on_next s (scan_of s at) (scan_of s at).step (λ next. read_from k s next)
