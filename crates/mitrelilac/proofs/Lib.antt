@@ -1,2 +1,2 @@
 mod Replies
-mod Exported
+pub mod Exported

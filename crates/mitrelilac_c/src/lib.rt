@@ -1,5 +1,9 @@
 // The archive that C links: the calls of crate mitrelilac under their exported names. include/mitrelilac.h is their manual.
+//
+// Module `condition3`: what is proved of the check and the finders together.
 #![tactic(auto)]
+
+pub mod condition3;
 
 ghost use Rattle.constants.specs.Raw.{raw_kind};
 ghost use Rattle.symbol.specs.Decode.{decode};
