@@ -1,6 +1,6 @@
 -- Laws of `scan_of` that callers use, and of `read_of`: no fuel is left in them.
 -- Assumes nothing.
-use mathlib.Core.Path.{◌≡◌, refl, ◌∙◌, ap}
+use mathlib.Core.Path.{◌≡◌, refl, ◌∙◌, ap, sym}
 use mathlib.Core.List.{List}
 use mathlib.Core.Bool.{Bool, true, false, cond}
 use Prim.Native.Nat.{ℕ, zero, suc, ◌+◌, ◌-◌, ◌≤◌, ◌<◌}
@@ -12,7 +12,7 @@ use borrow.Author.Tests.{leb-true, ltb-false, ltb-true}
 use Rattle.common.specs.Bytes.{le}
 use Rattle.common.specs.Reader.{refusal}
 use Rattle.constants.specs.Kind.{is_filler}
-use Rattle.iter.specs.Step.{frame_at, plain, on_kind, on_frame, scan_from, within, scan_of}
+use Rattle.iter.specs.Step.{frame_at, plain, on_kind, on_frame, scan_from, within, scan_of, step_of}
 use Rattle.iter.specs.Reading.{rec_at, more, on_next, read_from, read_of}
 use Rattle.iter.specs.declared.Frame.{Frame}
 use Rattle.iter.specs.declared.Frame.TheVariants as F
@@ -57,6 +57,11 @@ module _ (s : List ℕ) {kind : ℕ} (index start len next : ℕ) where
   unfolding scan_from
   from_fits zero p e = absurd (let z : ◌≡◌ {A = ℕ} 0 1 = cc in omega arith)
   from_fits (suc k) p e = from-frame p k (from_fits k) (frame_at s p) refl e
+
+-- what a step answered, of the scan that it ends
+pub step_is : (s : List ℕ) (at : ℕ) {answer m : Next} → answer ≡ step_of s at → answer ≡ m → (scan_of s at).step ≡ m
+unfolding step_of
+step_is s at e is = sym e ∙ is
 
 -- what holds of a record that a step yields
 pub record Stepped (s : List ℕ) (at index start len next : ℕ) : Type 0 where

@@ -2,9 +2,7 @@
 use native.Mathlib.Omega.{arith}
 use Prim.Native.Nat.{◌<◌}
 use mathlib.Core.Path.{◌≡◌, sym, ◌∙◌}
-use Rattle.iter.specs.Step.{scan_of, step_of}
-use Rattle.iter.specs.declared.Next.TheVariants.{Record}
-use Rattle.iter.proofs.Reading.{step_fits}
+use Rattle.iter.proofs.Reading.{step_fits, step_is}
 use Rattle.chain.proofs.Goings.{going_first, depth_most}
 use Rattle.walk.proofs.Walks.{push_room, pop_room, at_end, at_refused, going_stay, going_push, going_pop, at_found, at_refusing}
 use Rattle.walk.proofs.walk.Goals as goal
@@ -19,62 +17,66 @@ pub returns-in-Refused : goal.returns-in-Refused
 returns-in-Refused c = c.refused-in-Refused.ensures ∙ at_refused _ _ _ _ _ _ c.loop-e.invariant _ (sym c.step.ensures ∙ c.in-Refused.is)
 
 pub overflow_add-read : goal.overflow_add-read
-unfolding step_of
-overflow_add-read c = omega (arith, c.loop-e.invariant, step_fits _ _ _ _ _ _ ((let h : (scan_of c.args.s.now c.loop-e.at).step ≡ Record c.in-Record.kind c.in-Record.index c.in-Record.start c.in-Record.len c.in-Record.next = sym c.step.ensures ∙ c.in-Record.is in h)))
+overflow_add-read c = omega (arith, c.loop-e.invariant, step_fits _ _ _ _ _ _ (step_is _ _ c.step.ensures c.in-Record.is))
 
 pub loop-e-smaller-in-Stay : goal.loop-e-smaller-in-Stay
-unfolding step_of
-loop-e-smaller-in-Stay c = omega (arith, c.loop-e.invariant, step_fits _ _ _ _ _ _ ((let h : (scan_of c.args.s.now c.loop-e.at).step ≡ Record c.in-Record.kind c.in-Record.index c.in-Record.start c.in-Record.len c.in-Record.next = sym c.step.ensures ∙ c.in-Record.is in h)))
+loop-e-smaller-in-Stay c = omega (arith, c.loop-e.invariant, step_fits _ _ _ _ _ _ (step_is _ _ c.step.ensures c.in-Record.is))
 
 pub loop-e-preserved-in-Stay : goal.loop-e-preserved-in-Stay
-unfolding step_of
-loop-e-preserved-in-Stay c = going_stay _ _ _ _ _ _ c.loop-e.invariant _ _ _ _ _ ((let h : (scan_of c.args.s.now c.loop-e.at).step ≡ Record c.in-Record.kind c.in-Record.index c.in-Record.start c.in-Record.len c.in-Record.next = sym c.step.ensures ∙ c.in-Record.is in h)) (sym c.turn_at.ensures ∙ c.in-Stay.is)
+loop-e-preserved-in-Stay c = going_stay _ _ _ _ _ _ c.loop-e.invariant _ _ _ _ _ (step_is _ _ c.step.ensures c.in-Record.is) (sym c.turn_at.ensures ∙ c.in-Stay.is)
 
 pub overflow_cast-chain : goal.overflow_cast-chain
-unfolding step_of
-overflow_cast-chain c = omega (arith, c.loop-e.invariant, step_fits _ _ _ _ _ _ ((let h : (scan_of c.args.s.now c.loop-e.at).step ≡ Record c.in-Record.kind c.in-Record.index c.in-Record.start c.in-Record.len c.in-Record.next = sym c.step.ensures ∙ c.in-Record.is in h)))
+overflow_cast-chain c = omega (arith, c.loop-e.invariant, step_fits _ _ _ _ _ _ (step_is _ _ c.step.ensures c.in-Record.is))
 
 pub offset_bounds-chain-depth : goal.offset_bounds-chain-depth
-offset_bounds-chain-depth c = omega (arith, (let h : c.loop-e.chain.depth < 64 = push_room _ _ _ _ (sym c.turn_at.ensures ∙ c.in-Push.is) in h))
+offset_bounds-chain-depth c =
+    let room : c.loop-e.chain.depth < 64 = push_room _ _ _ _ (sym c.turn_at.ensures ∙ c.in-Push.is) in
+    omega arith
 
 pub bounds-chain-depth : goal.bounds-chain-depth
-bounds-chain-depth c = omega (arith, (let h : c.loop-e.chain.depth < 64 = push_room _ _ _ _ (sym c.turn_at.ensures ∙ c.in-Push.is) in h))
+bounds-chain-depth c =
+    let room : c.loop-e.chain.depth < 64 = push_room _ _ _ _ (sym c.turn_at.ensures ∙ c.in-Push.is) in
+    omega arith
 
 pub overflow_add-chain : goal.overflow_add-chain
-overflow_add-chain c = omega (arith, (let h : c.loop-e.chain.depth < 64 = push_room _ _ _ _ (sym c.turn_at.ensures ∙ c.in-Push.is) in h))
+overflow_add-chain c =
+    let room : c.loop-e.chain.depth < 64 = push_room _ _ _ _ (sym c.turn_at.ensures ∙ c.in-Push.is) in
+    omega arith
 
 pub loop-e-smaller-in-Push : goal.loop-e-smaller-in-Push
-unfolding step_of
-loop-e-smaller-in-Push c = omega (arith, c.loop-e.invariant, step_fits _ _ _ _ _ _ ((let h : (scan_of c.args.s.now c.loop-e.at).step ≡ Record c.in-Record.kind c.in-Record.index c.in-Record.start c.in-Record.len c.in-Record.next = sym c.step.ensures ∙ c.in-Record.is in h)))
+loop-e-smaller-in-Push c = omega (arith, c.loop-e.invariant, step_fits _ _ _ _ _ _ (step_is _ _ c.step.ensures c.in-Record.is))
 
 pub loop-e-preserved-in-Push : goal.loop-e-preserved-in-Push
-unfolding step_of
-loop-e-preserved-in-Push c = going_push _ _ _ _ _ _ c.loop-e.invariant _ _ _ _ _ ((let h : (scan_of c.args.s.now c.loop-e.at).step ≡ Record c.in-Record.kind c.in-Record.index c.in-Record.start c.in-Record.len c.in-Record.next = sym c.step.ensures ∙ c.in-Record.is in h)) (sym c.turn_at.ensures ∙ c.in-Push.is)
+loop-e-preserved-in-Push c = going_push _ _ _ _ _ _ c.loop-e.invariant _ _ _ _ _ (step_is _ _ c.step.ensures c.in-Record.is) (sym c.turn_at.ensures ∙ c.in-Push.is)
 
 pub overflow_sub-chain : goal.overflow_sub-chain
-overflow_sub-chain c = omega (arith, (let h : c.loop-e.chain.depth ≡ 0 → ⊥ = pop_room _ _ _ _ (sym c.turn_at.ensures ∙ c.in-Pop.is) in h), depth_most _ _ _ _ _ _ c.loop-e.invariant)
+overflow_sub-chain c =
+    let room : c.loop-e.chain.depth ≡ 0 → ⊥ = pop_room _ _ _ _ (sym c.turn_at.ensures ∙ c.in-Pop.is) in
+    omega (arith, depth_most _ _ _ _ _ _ c.loop-e.invariant)
 
 pub offset_bounds-chain-depth-in-Pop : goal.offset_bounds-chain-depth-in-Pop
-offset_bounds-chain-depth-in-Pop c = omega (arith, (let h : c.loop-e.chain.depth ≡ 0 → ⊥ = pop_room _ _ _ _ (sym c.turn_at.ensures ∙ c.in-Pop.is) in h), depth_most _ _ _ _ _ _ c.loop-e.invariant)
+offset_bounds-chain-depth-in-Pop c =
+    let room : c.loop-e.chain.depth ≡ 0 → ⊥ = pop_room _ _ _ _ (sym c.turn_at.ensures ∙ c.in-Pop.is) in
+    omega (arith, depth_most _ _ _ _ _ _ c.loop-e.invariant)
 
 pub bounds-chain-depth-in-Pop : goal.bounds-chain-depth-in-Pop
-bounds-chain-depth-in-Pop c = omega (arith, (let h : c.loop-e.chain.depth ≡ 0 → ⊥ = pop_room _ _ _ _ (sym c.turn_at.ensures ∙ c.in-Pop.is) in h), depth_most _ _ _ _ _ _ c.loop-e.invariant)
+bounds-chain-depth-in-Pop c =
+    let room : c.loop-e.chain.depth ≡ 0 → ⊥ = pop_room _ _ _ _ (sym c.turn_at.ensures ∙ c.in-Pop.is) in
+    omega (arith, depth_most _ _ _ _ _ _ c.loop-e.invariant)
 
 pub overflow_sub-chain-in-Pop : goal.overflow_sub-chain-in-Pop
-overflow_sub-chain-in-Pop c = omega (arith, (let h : c.loop-e.chain.depth ≡ 0 → ⊥ = pop_room _ _ _ _ (sym c.turn_at.ensures ∙ c.in-Pop.is) in h), depth_most _ _ _ _ _ _ c.loop-e.invariant)
+overflow_sub-chain-in-Pop c =
+    let room : c.loop-e.chain.depth ≡ 0 → ⊥ = pop_room _ _ _ _ (sym c.turn_at.ensures ∙ c.in-Pop.is) in
+    omega (arith, depth_most _ _ _ _ _ _ c.loop-e.invariant)
 
 pub loop-e-smaller : goal.loop-e-smaller
-unfolding step_of
-loop-e-smaller c = omega (arith, c.loop-e.invariant, step_fits _ _ _ _ _ _ ((let h : (scan_of c.args.s.now c.loop-e.at).step ≡ Record c.in-Record.kind c.in-Record.index c.in-Record.start c.in-Record.len c.in-Record.next = sym c.step.ensures ∙ c.in-Record.is in h)))
+loop-e-smaller c = omega (arith, c.loop-e.invariant, step_fits _ _ _ _ _ _ (step_is _ _ c.step.ensures c.in-Record.is))
 
 pub loop-e-preserved : goal.loop-e-preserved
-unfolding step_of
-loop-e-preserved c = going_pop _ _ _ _ _ _ c.loop-e.invariant _ _ _ _ _ ((let h : (scan_of c.args.s.now c.loop-e.at).step ≡ Record c.in-Record.kind c.in-Record.index c.in-Record.start c.in-Record.len c.in-Record.next = sym c.step.ensures ∙ c.in-Record.is in h)) (sym c.turn_at.ensures ∙ c.in-Pop.is)
+loop-e-preserved c = going_pop _ _ _ _ _ _ c.loop-e.invariant _ _ _ _ _ (step_is _ _ c.step.ensures c.in-Record.is) (sym c.turn_at.ensures ∙ c.in-Pop.is)
 
 pub returns-in-Found : goal.returns-in-Found
-unfolding step_of
-returns-in-Found c = c.found.ensures ∙ at_found _ _ _ _ _ _ c.loop-e.invariant _ _ _ _ _ ((let h : (scan_of c.args.s.now c.loop-e.at).step ≡ Record c.in-Record.kind c.in-Record.index c.in-Record.start c.in-Record.len c.in-Record.next = sym c.step.ensures ∙ c.in-Record.is in h)) (sym c.turn_at.ensures ∙ c.in-Found.is)
+returns-in-Found c = c.found.ensures ∙ at_found _ _ _ _ _ _ c.loop-e.invariant _ _ _ _ _ (step_is _ _ c.step.ensures c.in-Record.is) (sym c.turn_at.ensures ∙ c.in-Found.is)
 
 pub returns-in-Refused-turn_at : goal.returns-in-Refused-turn_at
-unfolding step_of
-returns-in-Refused-turn_at c = c.refused-in-Refused-turn_at.ensures ∙ at_refusing _ _ _ _ _ _ c.loop-e.invariant _ _ _ _ _ ((let h : (scan_of c.args.s.now c.loop-e.at).step ≡ Record c.in-Record.kind c.in-Record.index c.in-Record.start c.in-Record.len c.in-Record.next = sym c.step.ensures ∙ c.in-Record.is in h)) _ (sym c.turn_at.ensures ∙ c.in-Refused-turn_at.is)
+returns-in-Refused-turn_at c = c.refused-in-Refused-turn_at.ensures ∙ at_refusing _ _ _ _ _ _ c.loop-e.invariant _ _ _ _ _ (step_is _ _ c.step.ensures c.in-Record.is) _ (sym c.turn_at.ensures ∙ c.in-Refused-turn_at.is)

@@ -1,10 +1,8 @@
 -- `climb::opener::opener_at` meets its contract.
 use native.Mathlib.Omega.{arith}
-use mathlib.Core.Path.{◌≡◌, sym, ◌∙◌}
+use mathlib.Core.Path.{sym, ◌∙◌}
 use borrow.Author.Tests.{eq-eqb, ne_eqb}
-use Rattle.iter.specs.Step.{scan_of, step_of}
-use Rattle.iter.specs.declared.Next.TheVariants.{Record}
-use Rattle.iter.proofs.Reading.{step_fits}
+use Rattle.iter.proofs.Reading.{step_fits, step_is}
 use Rattle.iter.proofs.Records.{kind_lent, role_of_lem}
 use Rattle.climb.specs.Opener.{opener_of}
 use Rattle.climb.proofs.Openers.{opener_record}
@@ -19,33 +17,25 @@ unfolding opener_of
 returns-in-Refused c = rw (sym c.step.ensures ∙ c.in-Refused.is)
 
 pub returns-then-index-at : goal.returns-then-index-at
-unfolding step_of
-returns-then-index-at c = rw (c.at-then-index-at.ensures, opener_record _ _ _ _ _ _ ((let h : (scan_of c.args.s.now c.args.at).step ≡ Record c.in-Record.kind c.in-Record.index c.in-Record.from c.in-Record.len c.in-Record.next = sym c.step.ensures ∙ c.in-Record.is in h)), ne_eqb _ _ c.if-index-at.true)
+returns-then-index-at c = rw (c.at-then-index-at.ensures, opener_record _ _ _ _ _ _ (step_is _ _ c.step.ensures c.in-Record.is), ne_eqb _ _ c.if-index-at.true)
 
 pub slice_bounds-opener_in-count : goal.slice_bounds-opener_in-count
-unfolding step_of
-slice_bounds-opener_in-count c = omega (arith, step_fits _ _ _ _ _ _ ((let h : (scan_of c.args.s.now c.args.at).step ≡ Record c.in-Record.kind c.in-Record.index c.in-Record.from c.in-Record.len c.in-Record.next = sym c.step.ensures ∙ c.in-Record.is in h)))
+slice_bounds-opener_in-count c = omega (arith, step_fits _ _ _ _ _ _ (step_is _ _ c.step.ensures c.in-Record.is))
 
 pub slice_bounds-opener_in-start : goal.slice_bounds-opener_in-start
-unfolding step_of
-slice_bounds-opener_in-start c = omega (arith, step_fits _ _ _ _ _ _ ((let h : (scan_of c.args.s.now c.args.at).step ≡ Record c.in-Record.kind c.in-Record.index c.in-Record.from c.in-Record.len c.in-Record.next = sym c.step.ensures ∙ c.in-Record.is in h)))
+slice_bounds-opener_in-start c = omega (arith, step_fits _ _ _ _ _ _ (step_is _ _ c.step.ensures c.in-Record.is))
 
 pub slice_bounds-opener_in-end : goal.slice_bounds-opener_in-end
-unfolding step_of
-slice_bounds-opener_in-end c = omega (arith, step_fits _ _ _ _ _ _ ((let h : (scan_of c.args.s.now c.args.at).step ≡ Record c.in-Record.kind c.in-Record.index c.in-Record.from c.in-Record.len c.in-Record.next = sym c.step.ensures ∙ c.in-Record.is in h)))
+slice_bounds-opener_in-end c = omega (arith, step_fits _ _ _ _ _ _ (step_is _ _ c.step.ensures c.in-Record.is))
 
 pub opener_in-requires : goal.opener_in-requires
-unfolding step_of
-opener_in-requires c = role_of_lem _ _ (kind_lent _ _ _ _ _ _ ((let h : (scan_of c.args.s.now c.args.at).step ≡ Record c.in-Record.kind c.in-Record.index c.in-Record.from c.in-Record.len c.in-Record.next = sym c.step.ensures ∙ c.in-Record.is in h))) (sym c.nesting_role.ensures ∙ c.in-Opens.is)
+opener_in-requires c = role_of_lem _ _ (kind_lent _ _ _ _ _ _ (step_is _ _ c.step.ensures c.in-Record.is)) (sym c.nesting_role.ensures ∙ c.in-Opens.is)
 
 pub returns-in-Opens : goal.returns-in-Opens
-unfolding step_of
-returns-in-Opens c = c.opener_in.ensures ∙ rw (opener_record _ _ _ _ _ _ ((let h : (scan_of c.args.s.now c.args.at).step ≡ Record c.in-Record.kind c.in-Record.index c.in-Record.from c.in-Record.len c.in-Record.next = sym c.step.ensures ∙ c.in-Record.is in h)), eq-eqb _ _ c.if-index-at.false, sym c.nesting_role.ensures ∙ c.in-Opens.is)
+returns-in-Opens c = c.opener_in.ensures ∙ rw (opener_record _ _ _ _ _ _ (step_is _ _ c.step.ensures c.in-Record.is), eq-eqb _ _ c.if-index-at.false, sym c.nesting_role.ensures ∙ c.in-Opens.is)
 
 pub returns-in-Closes : goal.returns-in-Closes
-unfolding step_of
-returns-in-Closes c = rw (c.at-in-Closes.ensures, opener_record _ _ _ _ _ _ ((let h : (scan_of c.args.s.now c.args.at).step ≡ Record c.in-Record.kind c.in-Record.index c.in-Record.from c.in-Record.len c.in-Record.next = sym c.step.ensures ∙ c.in-Record.is in h)), eq-eqb _ _ c.if-index-at.false, sym c.nesting_role.ensures ∙ c.in-Closes.is)
+returns-in-Closes c = rw (c.at-in-Closes.ensures, opener_record _ _ _ _ _ _ (step_is _ _ c.step.ensures c.in-Record.is), eq-eqb _ _ c.if-index-at.false, sym c.nesting_role.ensures ∙ c.in-Closes.is)
 
 pub returns-in-Neither : goal.returns-in-Neither
-unfolding step_of
-returns-in-Neither c = rw (c.at-in-Neither.ensures, opener_record _ _ _ _ _ _ ((let h : (scan_of c.args.s.now c.args.at).step ≡ Record c.in-Record.kind c.in-Record.index c.in-Record.from c.in-Record.len c.in-Record.next = sym c.step.ensures ∙ c.in-Record.is in h)), eq-eqb _ _ c.if-index-at.false, sym c.nesting_role.ensures ∙ c.in-Neither.is)
+returns-in-Neither c = rw (c.at-in-Neither.ensures, opener_record _ _ _ _ _ _ (step_is _ _ c.step.ensures c.in-Record.is), eq-eqb _ _ c.if-index-at.false, sym c.nesting_role.ensures ∙ c.in-Neither.is)
