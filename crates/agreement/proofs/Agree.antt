@@ -1,23 +1,18 @@
 -- Jumping and walking agree wherever the check passed.
 -- Assumes nothing.
-use mathlib.Core.Path.{◌≡◌, sym, ◌∙◌}
-use mathlib.Core.List.{List, [], ◌∷◌}
-use Prim.Native.Nat.{ℕ, ◌+◌, ◌≤◌, ◌<◌}
-use native.Mathlib.Omega.{arith}
+use Rattle.std.proofs.Common.{ℕ, ◌+◌, ◌≤◌, ◌<◌, ◌≡◌, sym, ◌∙◌, arith, List, [], ◌∷◌, length, Ok, Err}
 use native.Mathlib.Decide.{dec_lt}
-use lib.ListN.{length}
-use Rattle.common.specs.Reader.{refusal}
+use Rattle.common.specs.declared.Refusal.TheVariants.{NothingThere}
 use Rattle.iter.specs.Step.{scan_of}
 use Rattle.iter.specs.Reading.{Rec}
-use Rattle.iter.specs.declared.Next.TheVariants as N
+use Rattle.iter.specs.declared.Next.TheVariants.{Record}
 use Rattle.iter.proofs.Reading.{step_fits}
 use Rattle.chain.specs.Finding.{Walk, seen}
-use Rattle.chain.specs.declared.finding.Outcome.TheVariants.{Answer, Refused}
 use Rattle.walk.proofs.Walks.{walk_at}
 use Rattle.jump.specs.Jump.{jump_from}
-use Rattle.check_nesting.specs.declared.stack.Open.{Open}
+use Rattle.check_nesting.specs.declared.act.Open.{Open}
 use Rattle.agreement.proofs.Nest.{open_at, indexes, length_indexes, NestsAt, First, done, passes, opens, closes, nests-ind}
-use Rattle.agreement.proofs.Turns.{same_out, same_stack, same_count, walk_end_lem, jump_end, walk_same, walk_past, jump_same, jump_past, walk_plain, jump_plain, walk_open, jump_push, jump_over}
+use Rattle.agreement.proofs.Turns.{same_out, same_count, walk_end_lem, jump_end, walk_same, walk_past, jump_same, jump_past, walk_plain, jump_plain, walk_open, jump_push, jump_over}
 use Rattle.agreement.proofs.Skip.{through_one, Skip, skip}
 
 -- where an index k lies, seen from i
@@ -44,20 +39,18 @@ below {X} e i a b = go (dec_lt e i)
 
 -- both answer with one stack, jumping with no more records read; or both refuse with 14
 pub data Agree (j w : Walk) : Type 0 where
-  both : j.out ≡ Answer → w.out ≡ Answer → j.stack ≡ w.stack → length j.visited ≤ length w.visited → Agree j w
-  none : j.out ≡ Refused (refusal 14 0 0) → w.out ≡ Refused (refusal 14 0 0) → Agree j w
+  both : {st : List ℕ} → j.out ≡ Ok st → w.out ≡ Ok st → length j.visited ≤ length w.visited → Agree j w
+  none : j.out ≡ Err NothingThere → w.out ≡ Err NothingThere → Agree j w
 
 -- after records that jumping visits, and no fewer that walking does
-along : {j j' w w' : Walk} (n : ℕ) → j.out ≡ j'.out → j.stack ≡ j'.stack → length j.visited ≡ n + length j'.visited →
-    w.out ≡ w'.out → w.stack ≡ w'.stack → n + length w'.visited ≤ length w.visited → Agree j' w' → Agree j w
-along n jo js jv wo ws wv (both a b st l) = both (jo ∙ a) (wo ∙ b) (js ∙ st ∙ sym ws) (omega arith)
-along n jo js jv wo ws wv (none a b) = none (jo ∙ a) (wo ∙ b)
+along : {j j' w w' : Walk} (n : ℕ) → j.out ≡ j'.out → length j.visited ≡ n + length j'.visited →
+    w.out ≡ w'.out → n + length w'.visited ≤ length w.visited → Agree j' w' → Agree j w
+along n jo jv wo wv (both a b l) = both (jo ∙ a) (wo ∙ b) (omega arith)
+along n jo jv wo wv (none a b) = none (jo ∙ a) (wo ∙ b)
 
 -- one record that both visit
 along_one : {j j' w w' : Walk} (r : Rec) → j ≡ seen r j' → w ≡ seen r w' → Agree j' w' → Agree j w
-along_one r p q =
-    along 1 (same_out p) (same_stack p) (same_count p ∙ (omega arith))
-    (same_out q) (same_stack q) (let n = same_count q in omega (arith, n))
+along_one r p q = along 1 (same_out p) (same_count p ∙ (omega arith)) (same_out q) (let n = same_count q in omega (arith, n))
 
 -- the innermost open scope reaches i
 abbrev Reach : ℕ → List Open → Type 0
@@ -69,7 +62,7 @@ module _ (s : List ℕ) (i : ℕ) where
   Goal p st = Agree (jump_from s i p (indexes st)) (walk_at s i p (indexes st))
 
   -- a record before i is dealt with by `before`; at i and past it nothing else matters
-  meets : {kind index from len next : ℕ} (p : ℕ) (st : List Open) → (scan_of s p).step ≡ N.Record kind index from len next → (index < i → Goal p st) → Goal p st
+  meets : {kind index from len next : ℕ} (p : ℕ) (st : List Open) → (scan_of s p).step ≡ Ok (Record kind index from len next) → (index < i → Goal p st) → Goal p st
   meets {kind} {index} {from} {len} {next} p st h before = go (order index i)
     where
       go : Order index i → Goal p st
@@ -77,8 +70,7 @@ module _ (s : List ℕ) (i : ℕ) where
       go (same a) =
           let j = jump_same s i p (indexes st) index from len next h a in
           let w = walk_same s i p (indexes st) index from len next h a in
-          both (same_out j) (same_out w) (same_stack (j ∙ sym w))
-          (let n : length (jump_from s i p (indexes st)).visited ≡ length (walk_at s i p (indexes st)).visited = same_count (j ∙ sym w) in omega arith)
+          both (same_out j) (same_out w) (let n = same_count (j ∙ sym w) in omega (arith, n))
       go (more a) =
           none (same_out (jump_past s i p (indexes st) index from len next h a)) (same_out (walk_past s i p (indexes st) index from len next h a))
 
@@ -93,28 +85,24 @@ module _ (s : List ℕ) (i : ℕ) where
       let y = step_fits s p index from len next h in
       along_one _ (jump_plain s i p (indexes st) index from len next h a r) (walk_plain s i p (indexes st) index from len next h a r)
       (on next st (omega arith) (omega arith) d c))
-  agree_on p st (opens {index = index} {from = from} {len = len} {next = next} {end = end} h r g z t o d) on c =
+  agree_on p st (opens {index = index} {from = from} {len = len} {next = next} {l = k} h r g z t o d) on c =
       meets p st h
       (λ a.
       let y = step_fits s p index from len next h in
       let x : length (indexes st) ≡ length st = length_indexes st in
       let room : length (indexes st) < 64 = omega arith in
-      let w : Skip s i next (open_at index end ∷ st) end st = skip s i (open_at index end) st next d in
-      let ny = step_fits s end end w.start w.long w.after w.lands in
-      let ne : next ≤ end = w.from in
-      below end i
-      (λ (q : i ≤ end).
+      let w : Skip s i next (open_at index k.end ∷ st) k.end st = skip s i (open_at index k.end) st next d in
+      let ny = step_fits s k.end k.end w.start w.long w.after w.lands in
+      let ne : next ≤ k.end = w.from in
+      below k.end i
+      (λ (q : i ≤ k.end).
       along_one _ (jump_push s i p (indexes st) index from len next h a r g ne q room) (walk_open s i p (indexes st) index from len next h a r room)
-      (on next (open_at index end ∷ st) (omega arith) (omega arith) d q))
-      (λ (q : end < i).
+      (on next (open_at index k.end ∷ st) (omega arith) (omega arith) d q))
+      (λ (q : k.end < i).
       let b = jump_over s i p (indexes st) index from len next h a r g ne q w.lands w.closer in
-      let k = through_one _ (walk_open s i p (indexes st) index from len next h a r room) in
-      let l = w.walked q in
-      let km = k.more in
-      let lm = l.more in
-      along 2 (same_out b) (same_stack b) (same_count b ∙ (omega arith))
-      (k.outs ∙ l.outs) (k.stacks ∙ l.stacks) (omega arith)
-      (on w.after st (omega arith) (omega arith) w.rest c)))
+      let u = through_one _ (walk_open s i p (indexes st) index from len next h a r room) in
+      let v = w.walked q in
+      along 2 (same_out b) (same_count b ∙ (omega arith)) (u.outs ∙ v.outs) (omega (arith, u.more, v.more)) (on w.after st (omega arith) (omega arith) w.rest c)))
   agree_on p _ (closes {o = o} {st = st} h r t d) on c = meets p (o ∷ st) h (λ a. absurd (omega arith))
 
   pub agree : (p : ℕ) → NestsAt s p [] → Goal p []

@@ -1,35 +1,29 @@
 -- Condition 3, of the definitions: wherever the check passes, the finders agree.
 -- Assumes nothing.
-use mathlib.Core.Path.{◌≡◌, refl, sym, ◌∙◌, ap, subst}
-use mathlib.Core.Logic.{◌⊎◌, inl, inr}
-use mathlib.Core.List.{List, [], ◌∷◌, reverse}
-use Prim.Native.Nat.{ℕ, ◌+◌, ◌≤◌, ◌<◌}
-use native.Mathlib.Omega.{arith}
-use lib.ListN.{length, length-reverse}
-use Rattle.common.specs.Reader.{refusal}
+use Rattle.std.proofs.Common.{ℕ, ◌+◌, ◌≤◌, ◌<◌, ◌≡◌, refl, sym, ◌∙◌, subst, inl, inr, arith, List, [], ◌∷◌, length, reverse, Ok, Err}
+use Rattle.std.specs.Prelude.{◌⊎◌}
+use Rattle.common.specs.declared.Refusal.TheVariants.{NothingThere}
+use Rattle.constants.specs.Raw.{nesting_role_of}
 use Rattle.constants.specs.declared.Role.TheVariants.{Neither, Opens, Closes}
 use Rattle.iter.specs.Step.{scan_of}
 use Rattle.iter.specs.Reading.{Rec, Reading, rec_at, read_of, Some, Begins}
-use Rattle.iter.specs.declared.Next.TheVariants as N
+use Rattle.iter.specs.declared.Next.TheVariants.{End, Record}
 use Rattle.iter.proofs.Reading.{step_fits, read_by}
 use Rattle.iter.proofs.Records.{Rising, rising}
-use Rattle.chain.specs.Chain.{chain_of}
-use Rattle.constants.specs.Raw.{nesting_role_of}
-use Rattle.chain.specs.Finding.{Walk, seen, found_by, refused_by, answer_of, finding_of}
-use Rattle.chain.specs.declared.finding.Outcome.{Outcome}
-use Rattle.chain.specs.declared.finding.Outcome.TheVariants.{Answer, Refused}
+use Rattle.chain.specs.Finding.{Walk, seen}
+use Rattle.check_nesting.specs.declared.act.Open.{Open}
+use Rattle.check_nesting.specs.Stack.{inner_index}
+use Rattle.check_nesting.proofs.Nesting.{good_nests}
 use Rattle.walk.specs.Walk.{walk_of}
 use Rattle.walk.proofs.Walks.{walk_at}
 use Rattle.jump.specs.Jump.{jump_from, jump_of}
+use Rattle.climb.specs.Opener.{opener_of}
 use Rattle.climb.specs.Climb.{reached_by, climb_of}
-use Rattle.climb.specs.declared.opener.Opener.TheVariants.{Parent}
-use Rattle.check_nesting.specs.declared.stack.Open.{Open}
-use Rattle.check_nesting.proofs.Nesting.{good_nests}
-use Rattle.agreement.specs.Agreement.{OpenerBegins, BothAnswer, ClimbsThem, Agreement, Condition3, answers_of}
+use Rattle.agreement.specs.Agreement.{OpenerBegins, Agreement, Condition3, answers_of}
 use Rattle.agreement.proofs.Nest.{bytes_at, open_at, indexes, length_indexes, NestsAt, First, done, passes, opens, closes, nests-ind}
-use Rattle.agreement.proofs.Turns.{same_out, same_stack, walk_end_lem, walk_same, walk_past, walk_plain, walk_open, walk_close}
+use Rattle.agreement.proofs.Turns.{same_out, walk_end_lem, walk_same, walk_past, walk_plain, walk_open, walk_close}
 use Rattle.agreement.proofs.Agree.{Order, less, same, more, order, Agree, both, none, agree}
-use Rattle.agreement.proofs.Parents.{opener-found, Up, top, over, up_later, up_out, climb_opener, reversed-stack}
+use Rattle.agreement.proofs.Parents.{opener-found, Up, top, over, up_later, up_out, climb_opener}
 
 -- of records that stand one behind the other from p on, one of index i lies at p or later
 some_from : (P : Rec → Type 0) (i : ℕ) → ((r : Rec) → P r → r.index ≡ i) → (p : ℕ) (rs : List Rec) → Rising p rs → Some P rs → p ≤ i
@@ -51,15 +45,15 @@ module _ (s : List ℕ) (P : Rec → Type 0) where
   abbrev From : ℕ → Type 0
   From p = Some P (read_of s p).recs
 
-  from_end : (p q : ℕ) → (scan_of s p).step ≡ N.End q → From p → ⊥
-  from_end p q e b = subst (λ (r : Reading). Some P r.recs) (read_by s p (N.End q) e) b
+  from_end : (p q : ℕ) → (scan_of s p).step ≡ Ok (End q) → From p → ⊥
+  from_end p q e b = subst (λ (r : Reading). Some P r.recs) (read_by s p (Ok (End q)) e) b
 
-  module _ (p index from len next : ℕ) {kind : ℕ} (e : (scan_of s p).step ≡ N.Record kind index from len next) where
+  module _ (p index from len next : ℕ) {kind : ℕ} (e : (scan_of s p).step ≡ Ok (Record kind index from len next)) where
     from_is : From p → P (rec_at s (scan_of s p) index from len) ⊎ From next
-    from_is b = subst (λ (r : Reading). Some P r.recs) (read_by s p (N.Record kind index from len next) e) b
+    from_is b = subst (λ (r : Reading). Some P r.recs) (read_by s p (Ok (Record kind index from len next)) e) b
 
     from_with : P (rec_at s (scan_of s p) index from len) ⊎ From next → From p
-    from_with b = subst (λ (r : Reading). Some P r.recs) (sym (read_by s p (N.Record kind index from len next) e)) b
+    from_with b = subst (λ (r : Reading). Some P r.recs) (sym (read_by s p (Ok (Record kind index from len next)) e)) b
 
 module _ (s : List ℕ) (i : ℕ) where
   abbrev Is : Rec → Type 0
@@ -72,16 +66,16 @@ module _ (s : List ℕ) (i : ℕ) where
   abbrev walk_from_stack : ℕ → List Open → Walk
   walk_from_stack p st = walk_at s i p (indexes st)
 
-  -- climbing gives the stack of a walk, reversed
-  abbrev Climbs : Walk → Type 0
-  Climbs w = climb_of s i ≡ reached_by (reverse w.stack)
+  -- climbing gives a stack, reversed
+  abbrev Climbs : List ℕ → Type 0
+  Climbs st = climb_of s i ≡ reached_by (reverse st)
 
   -- whether a record begins at i, and whether the walk answers; and where it is an opener, what climbing gives
   data Met (p : ℕ) (st : List Open) : Type 0 where
-    found : Begins s p i → (walk_from_stack p st).out ≡ Answer → (OpenerBegins s p i → Climbs (walk_from_stack p st)) → Met p st
-    lost : (Begins s p i → ⊥) → (walk_from_stack p st).out ≡ Refused (refusal 14 0 0) → Met p st
+    found : {gs : List ℕ} → Begins s p i → (walk_from_stack p st).out ≡ Ok gs → (OpenerBegins s p i → Climbs gs) → Met p st
+    lost : (Begins s p i → ⊥) → (walk_from_stack p st).out ≡ Err NothingThere → Met p st
 
-  module _ (p index from len next : ℕ) (st : List Open) {kind : ℕ} (h : (scan_of s p).step ≡ N.Record kind index from len next) where
+  module _ (p index from len next : ℕ) (st : List Open) {kind : ℕ} (h : (scan_of s p).step ≡ Ok (Record kind index from len next)) where
     -- the record of p's step lies before i
     past : (gs : List Open) → index < i → walk_from_stack p st ≡ seen (rec_at s (scan_of s p) index from len) (walk_from_stack next gs) → Met next gs → Met p st
     past gs l w (found b q c) =
@@ -89,7 +83,7 @@ module _ (s : List ℕ) (i : ℕ) where
         (λ o.
         elim (from_is s IsOpener p index from len next h o) [
           | inl e ↦ (let f : index ≡ i = e.0 in absurd (omega arith))
-          | inr d ↦ c d ∙ ap (λ (x : List ℕ). reached_by (reverse x)) (sym (same_stack w))
+          | inr d ↦ c d
         ])
     past gs l w (lost d q) =
         lost (λ b. elim (from_is s Is p index from len next h b) [ inl e ↦ absurd (omega arith) | inr c ↦ d c ]) (same_out w ∙ q)
@@ -101,7 +95,7 @@ module _ (s : List ℕ) (i : ℕ) where
         let f : next ≤ i = some_from P i at next (read_of s next).recs (rising s next) b in
         absurd (omega arith)
 
-    meets : (index < i → Met p st) → (index ≡ i → nesting_role_of (bytes_at s from len) ≡ Opens → climb_of s i ≡ reached_by (reverse (indexes st))) → Met p st
+    meets : (index < i → Met p st) → (index ≡ i → nesting_role_of (bytes_at s from len) ≡ Opens → Climbs (indexes st)) → Met p st
     meets before climbs = by (order index i)
       where
         by : Order index i → Met p st
@@ -111,7 +105,7 @@ module _ (s : List ℕ) (i : ℕ) where
             found (from_with s Is p index from len next h (inl e)) (same_out w)
             (λ o.
             elim (from_is s IsOpener p index from len next h o) [
-              | inl d ↦ climbs e d.1 ∙ ap (λ (x : List ℕ). reached_by (reverse x)) (sym (same_stack w))
+              | inl d ↦ climbs e d.1
               | inr d ↦ absurd (later IsOpener (λ r x. x.0) (omega arith) d)
             ])
         by (more l) =
@@ -133,45 +127,26 @@ module _ (s : List ℕ) (i : ℕ) where
       meets p index from len next st h
       (λ a. past p index from len next st h st a (walk_plain s i p (indexes st) index from len next h a r)
       (on next st (omega arith) (omega arith) d m (up_later next (omega arith) u)))
-      (λ e o. absurd (let z : Neither ≡ Opens = sym r ∙ o in let w : ◌≡◌ {A = ℕ} 0 1 = cc in omega arith))
-  met_on p st (opens {index = index} {from = from} {len = len} {next = next} {parent = parent} {end = end} h r g z t o d) on m u =
+      (λ e o. let z : Neither ≡ Opens = sym r ∙ o in cc)
+  met_on p st (opens {index = index} {from = from} {len = len} {next = next} {l = l} h r g z t o d) on m u =
       let y = step_fits s p index from len next h in
       let x : length (indexes st) ≡ length st = length_indexes st in
       let room : length (indexes st) < 64 = omega arith in
-      let opener = opener-found s p index from len next parent end h r g ∙ ap Parent t in
+      let opener : Ok (inner_index st) ≡ opener_of s index = rw (← t) (opener-found s p index from len next h r g) in
       let below : Up s index st = up_later index (omega arith) u in
       meets p index from len next st h
-      (λ a. past p index from len next st h (open_at index end ∷ st) a (walk_open s i p (indexes st) index from len next h a r room)
-      (on next (open_at index end ∷ st) (omega arith) (omega arith) d o (over (omega arith) z opener below)))
+      (λ a. past p index from len next st h (open_at index l.end ∷ st) a (walk_open s i p (indexes st) index from len next h a r room)
+      (on next (open_at index l.end ∷ st) (omega arith) (omega arith) d o (over (omega arith) z opener below)))
       (λ e q. subst (λ (k : ℕ). climb_of s k ≡ reached_by (reverse (indexes st))) e (climb_opener s index st opener m below))
   met_on p _ (closes {index = index} {from = from} {len = len} {next = next} {o = o} {st = st} h r t d) on m u =
       let y = step_fits s p index from len next h in
       meets p index from len next (o ∷ st) h
       (λ a. past p index from len next (o ∷ st) h st a (walk_close s i p o.index (indexes st) index from len next h a r)
       (on next st (omega arith) (omega arith) d (omega arith) (up_out next (omega arith) u)))
-      (λ e q. absurd (let z : Closes ≡ Opens = sym r ∙ q in let w : ◌≡◌ {A = ℕ} 0 1 = cc in omega arith))
+      (λ e q. let z : Closes ≡ Opens = sym r ∙ q in cc)
 
   met : (p : ℕ) → NestsAt s p [] → Met p []
   met p d = nests-ind s Meets met_on p [] d (omega arith) top
-
--- what a walk's end makes of its finding
-finds : (w : Walk) → w.out ≡ Answer → finding_of w ≡ found_by (chain_of w.stack) (length w.visited)
-finds w e = ap (λ (x : Outcome). answer_of x w.stack (length w.visited)) e
-
-refuses14 : (w : Walk) → w.out ≡ Refused (refusal 14 0 0) → finding_of w ≡ refused_by (refusal 14 0 0)
-refuses14 w e = ap (λ (x : Outcome). answer_of x w.stack (length w.visited)) e
-
-both_answer : (j w : Walk) → j.out ≡ Answer → w.out ≡ Answer → j.stack ≡ w.stack → length j.visited ≤ length w.visited →
-    BothAnswer (chain_of w.stack) (finding_of w) (finding_of j)
-both_answer j w a b e l =
-    rw (finds j a, finds w b)
-    (record { walking_answers = refl; jumping_answers = refl; walking_finds = refl; jumping_finds = ap chain_of e; jumping_reads_no_more = l })
-
-climbs_them : (s : List ℕ) (i : ℕ) (w : Walk) → Climbs s i w → ClimbsThem (chain_of w.stack) (climb_of s i)
-unfolding chain_of
-climbs_them s i w e =
-    rw e
-    (record { climbing_answers = refl; climbing_finds = reversed-stack w.stack; as_many_links = length-reverse w.stack })
 
 module _ (s : List ℕ) (start i : ℕ) where
   abbrev jumped : Walk
@@ -182,22 +157,24 @@ module _ (s : List ℕ) (start i : ℕ) where
 
   join : Agree jumped walked → Met s i start [] → Agreement s start i (answers_of s start i)
   unfolding walk_of jump_of
-  join (both a b e l) (found d q c) =
+  join (both {st = st} a b l) (found {gs = gs} d q c) =
       record {
-        if_a_record_begins = λ x. both_answer jumped walked a b e l;
+        if_a_record_begins = λ x.
+            rw (a, b)
+            (record { walking_reads = length walked.visited; jumping_reads = length jumped.visited; walking_finds = refl; jumping_finds = refl; jumping_reads_no_more = l });
         if_none_begins = λ x. absurd (x d);
-        if_an_opener_begins = λ o. climbs_them s i walked (c o);
+        if_an_opener_begins = λ o. rw q (c o);
       }
-  join (both a b e l) (lost x q) = let z : ◌≡◌ {A = ℕ} 0 1 = cc in absurd (omega arith)
-  join (none a b) (found d q c) = let z : ◌≡◌ {A = ℕ} 0 1 = cc in absurd (omega arith)
+  join (both a b l) (lost x q) = cc
+  join (none a b) (found d q c) = cc
   join (none a b) (lost x q) =
       record {
         if_a_record_begins = λ d. absurd (x d);
-        if_none_begins = λ y. record { walking_refuses = refuses14 walked b; jumping_refuses = refuses14 jumped a };
+        if_none_begins = λ y. rw (a, b) (record { walking_refuses = refl; jumping_refuses = refl });
         if_an_opener_begins = λ o. absurd (x (some_of (IsOpener s i) (Is s i) (λ r y. y.0) (read_of s start).recs o));
       }
 
 pub condition3 : (s : List ℕ) (start i : ℕ) → Condition3 s start i (answers_of s start i)
 condition3 s start i n e =
-    let d : NestsAt s start [] = good_nests s start n e in
+    let d : NestsAt s start [] = good_nests s start e in
     join s start i (agree s i start d) (met s i start d)

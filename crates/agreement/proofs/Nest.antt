@@ -1,21 +1,17 @@
 -- What nesting says of a stream's steps: each position from which records nest, by the step made there.
 -- Assumes nothing.
-use mathlib.Core.Path.{◌≡◌, refl, sym, ◌∙◌, ap, subst}
-use mathlib.Core.List.{List, [], ◌∷◌}
-use Prim.Native.Nat.{ℕ, zero, suc, ◌+◌, ◌≤◌, ◌<◌}
-use native.Mathlib.Omega.{arith}
-use lib.ListN.{length, take, drop}
+use Rattle.std.proofs.Common.{ℕ, zero, suc, ◌+◌, ◌≤◌, ◌<◌, ◌≡◌, refl, sym, ap, ◌∙◌, subst, arith, List, [], ◌∷◌, length, take, drop, Some, Result, Ok, Err}
 use Rattle.common.specs.declared.Refusal.{Refusal}
 use Rattle.constants.specs.declared.Role.TheVariants.{Neither, Opens, Closes}
 use Rattle.constants.specs.Raw.{nesting_role_of}
 use Rattle.iter.specs.Step.{scan_of}
 use Rattle.iter.specs.Reading.{ends, refuses, Reading, read_of}
 use Rattle.iter.specs.declared.Next.{Next}
-use Rattle.iter.specs.declared.Next.TheVariants as N
+use Rattle.iter.specs.declared.Next.TheVariants.{End, Record}
 use Rattle.iter.proofs.Reading.{read_by}
 use Rattle.links.specs.Links.{links_of}
-use Rattle.links.specs.declared.Links.TheVariants.{Read}
-use Rattle.check_nesting.specs.declared.stack.Open.{Open}
+use Rattle.links.specs.declared.Links.{Links}
+use Rattle.check_nesting.specs.declared.act.Open.{Open}
 use Rattle.check_nesting.specs.Stack.{inner_index}
 use Rattle.check_nesting.specs.Nesting as R
 use Rattle.check_nesting.specs.Nesting.{Nests}
@@ -44,36 +40,29 @@ NestsAt s p st = NestsIn (read_of s p).last.ending (read_of s p).recs st
 
 -- such a position, by its step
 pub data First (s : List ℕ) : ℕ → List Open → Type 0 where
-  done : {p q : ℕ} → (scan_of s p).step ≡ N.End q → First s p []
-  passes : {p kind index from len next : ℕ} {st : List Open} → (scan_of s p).step ≡ N.Record kind index from len next →
+  done : {p q : ℕ} → (scan_of s p).step ≡ Ok (End q) → First s p []
+  passes : {p kind index from len next : ℕ} {st : List Open} → (scan_of s p).step ≡ Ok (Record kind index from len next) →
       nesting_role_of (bytes_at s from len) ≡ Neither → NestsAt s next st → First s p st
-  opens : {p kind index from len next parent end : ℕ} {st : List Open} → (scan_of s p).step ≡ N.Record kind index from len next →
-      nesting_role_of (bytes_at s from len) ≡ Opens → links_of (bytes_at s from len) ≡ Read parent end →
-      0 < index → parent ≡ inner_index st → length st < 64 → NestsAt s next (open_at index end ∷ st) → First s p st
-  closes : {p kind index from len next : ℕ} {o : Open} {st : List Open} → (scan_of s p).step ≡ N.Record kind index from len next →
+  opens : {p kind index from len next : ℕ} {l : Links} {st : List Open} → (scan_of s p).step ≡ Ok (Record kind index from len next) →
+      nesting_role_of (bytes_at s from len) ≡ Opens → links_of (bytes_at s from len) ≡ Some l →
+      0 < index → l.parent ≡ inner_index st → length st < 64 → NestsAt s next (open_at index l.end ∷ st) → First s p st
+  closes : {p kind index from len next : ℕ} {o : Open} {st : List Open} → (scan_of s p).step ≡ Ok (Record kind index from len next) →
       nesting_role_of (bytes_at s from len) ≡ Closes → o.end ≡ index → NestsAt s next st → First s p (o ∷ st)
 
 module _ (s : List ℕ) (p : ℕ) where
-  -- at a refusal records do not nest
-  refused_none : {e : Refusal} {st : List Open} → (scan_of s p).step ≡ N.Refused e → NestsAt s p st → ⊥
-  refused_none {e} h k =
-      let q : refuses e ≡ ends = ap (λ (r : Reading). r.last.ending) (sym (read_by s p (N.Refused e) h)) ∙ k.at_end in
-      let z : ◌≡◌ {A = ℕ} 0 1 = cc in
-      omega arith
-
   -- at End nothing is open
-  at_end : {q : ℕ} {st : List Open} → (scan_of s p).step ≡ N.End q → NestsAt s p st → First s p st
-  at_end {q} {st} h k = by (subst (λ (r : Reading). Nests r.recs st) (read_by s p (N.End q) h) k.nests)
+  at_end : {q : ℕ} {st : List Open} → (scan_of s p).step ≡ Ok (End q) → NestsAt s p st → First s p st
+  at_end {q} {st} h k = by (subst (λ (r : Reading). Nests r.recs st) (read_by s p (Ok (End q)) h) k.nests)
     where
       by : {gs : List Open} → Nests [] gs → First s p gs
       by R.done = done h
 
-  at_record : {kind index from len next : ℕ} {st : List Open} → (scan_of s p).step ≡ N.Record kind index from len next → NestsAt s p st → First s p st
+  at_record : {kind index from len next : ℕ} {st : List Open} → (scan_of s p).step ≡ Ok (Record kind index from len next) → NestsAt s p st → First s p st
   at_record {kind} {index} {from} {len} {next} {st} h k =
-      by (subst (λ (r : Reading). Nests r.recs st) (read_by s p (N.Record kind index from len next) h) k.nests)
+      by (subst (λ (r : Reading). Nests r.recs st) (read_by s p (Ok (Record kind index from len next)) h) k.nests)
     where
       last : (read_of s next).last.ending ≡ ends
-      last = ap (λ (r : Reading). r.last.ending) (sym (read_by s p (N.Record kind index from len next) h)) ∙ k.at_end
+      last = ap (λ (r : Reading). r.last.ending) (sym (read_by s p (Ok (Record kind index from len next)) h)) ∙ k.at_end
 
       by : {gs : List Open} → Nests (record { index = index; bytes = bytes_at s from len; fillers = (scan_of s p).fillers; filler_bytes = (scan_of s p).filler_bytes } ∷ (read_of s next).recs) gs → First s p gs
       by (R.passes o d) = passes h o (record { at_end = last; nests = d })
@@ -83,10 +72,12 @@ module _ (s : List ℕ) (p : ℕ) where
   first : {st : List Open} → NestsAt s p st → First s p st
   first {st} k = by (scan_of s p).step refl
     where
-      by : (n : Next) → (scan_of s p).step ≡ n → First s p st
-      by (N.End q) h = at_end h k
-      by (N.Refused e) h = absurd (refused_none h k)
-      by (N.Record kind index from len next) h = at_record h k
+      by : (n : Result Next Refusal) → (scan_of s p).step ≡ n → First s p st
+      by (Ok (End q)) h = at_end h k
+      by (Ok (Record kind index from len next)) h = at_record h k
+      by (Err e) h =
+          let q : refuses e ≡ ends = ap (λ (r : Reading). r.last.ending) (sym (read_by s p (Err e) h)) ∙ k.at_end in
+          cc
 
 -- what is shown of every such position, where it is known of the later ones
 pub nests-ind :

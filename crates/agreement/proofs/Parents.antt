@@ -1,44 +1,35 @@
 -- The parent fields of an opener, climbed, give the scopes that are open around it.
 -- Assumes nothing.
-use mathlib.Core.Path.{◌≡◌, refl, sym, ◌∙◌, ap}
-use mathlib.Core.List.{List, [], ◌∷◌, ◌++◌, reverse, reverse_aux}
-use Prim.Native.Nat.{ℕ, zero, suc, ◌-◌, ◌≤◌, ◌<◌}
-use native.Mathlib.Omega.{arith}
-use native.Mathlib.Nat.{not-suc-le-zero}
-use borrow.Author.Tests.{eq-eqb}
-use lib.ListN.{length, replicate, length-reverse}
-use lib.Seq.{take_at}
-use Rattle.constants.specs.declared.Role.TheVariants.{Opens}
-use Rattle.iter.specs.Step.{scan_of, step_of}
-use Rattle.iter.specs.declared.Next.TheVariants as N
-use Rattle.iter.specs.declared.Scan.{Scan}
-use Rattle.iter.proofs.Records.{again, kind_of}
-use Rattle.chain.specs.Chain.{chain_of}
+use Rattle.std.proofs.Common.{ℕ, zero, suc, ◌≤◌, ◌<◌, ◌≡◌, refl, sym, ap, ◌∙◌, eq-eqb, arith, List, [], ◌∷◌, length, reverse, Some, Ok}
+use mathlib.Core.List.{reverse_aux}
 use Rattle.constants.specs.Kind.{nesting_role}
 use Rattle.constants.specs.Raw.{nesting_role_of}
+use Rattle.constants.specs.declared.Role.TheVariants.{Opens}
+use Rattle.iter.specs.Step.{scan_of, step_of}
+use Rattle.iter.specs.declared.Next.TheVariants.{Record}
+use Rattle.iter.specs.declared.Scan.{Scan}
+use Rattle.iter.proofs.Reading.{again}
+use Rattle.iter.proofs.Records.{kind_of}
 use Rattle.links.specs.Links.{links_of}
-use Rattle.links.specs.declared.Links.TheVariants.{Read}
-use Rattle.check_nesting.specs.declared.stack.Open.{Open}
+use Rattle.links.specs.declared.Links.{Links}
+use Rattle.check_nesting.specs.declared.act.Open.{Open}
 use Rattle.check_nesting.specs.Stack.{inner_index}
-use Rattle.climb.specs.declared.opener.Opener.TheVariants.{Parent}
-use Rattle.climb.specs.Opener.{opener_on, opener_of}
+use Rattle.climb.specs.Opener.{opener_of}
 use Rattle.climb.specs.Climb.{reached_by, climb_by, climb_on, climb_of}
 use Rattle.climb.proofs.Climbs.{climb_top, climb_below}
-use Rattle.agreement.specs.Agreement.{reversed}
 use Rattle.agreement.proofs.Nest.{bytes_at, indexes}
 
 -- an opener that a step yields is found at its own index, with its parent field
-pub opener-found : (s : List ℕ) (p index from len next parent end : ℕ) {kind : ℕ} → (scan_of s p).step ≡ N.Record kind index from len next →
-    nesting_role_of (bytes_at s from len) ≡ Opens → links_of (bytes_at s from len) ≡ Read parent end → opener_of s index ≡ Parent parent
+pub opener-found : (s : List ℕ) (p index from len next : ℕ) {kind : ℕ} {l : Links} → (scan_of s p).step ≡ Ok (Record kind index from len next) →
+    nesting_role_of (bytes_at s from len) ≡ Opens → links_of (bytes_at s from len) ≡ Some l → Ok l.parent ≡ opener_of s index
 unfolding opener_of step_of nesting_role_of
-opener-found s p index from len next parent end h r g =
-    ap (λ (c : Scan). opener_on s index c.step) (again s index from len next p h)
-    ∙ rw (eq-eqb index index refl, ap nesting_role (kind_of s p index from len next h) ∙ r, g)
+opener-found s p index from len next h r g =
+    rw (ap (λ (c : Scan). c.step) (again s p index from len next h), eq-eqb index index refl, ap nesting_role (kind_of s p index from len next h) ∙ r, g)
 
 -- below p each open opener's parent field is the index of the next one out, which lies lower, and the outermost's is 0
 pub data Up (s : List ℕ) : ℕ → List Open → Type 0 where
   top : {p : ℕ} → Up s p []
-  over : {p : ℕ} {o : Open} {st : List Open} → o.index < p → 0 < o.index → opener_of s o.index ≡ Parent (inner_index st) → Up s o.index st → Up s p (o ∷ st)
+  over : {p : ℕ} {o : Open} {st : List Open} → o.index < p → 0 < o.index → Ok (inner_index st) ≡ opener_of s o.index → Up s o.index st → Up s p (o ∷ st)
 
 pub up_later : {s : List ℕ} {p : ℕ} (q : ℕ) {st : List Open} → p ≤ q → Up s p st → Up s q st
 up_later q l top = top
@@ -50,22 +41,12 @@ up_out q l (over a z e u) = up_later q (omega arith) u
 climb_up : (s : List ℕ) (room k : ℕ) (st : List Open) (links : List ℕ) → length st ≤ room → Up s k st →
     climb_on room s k (inner_index st) links ≡ reached_by (reverse_aux (indexes st) links)
 climb_up s room k st links l top = climb_top s k 0 links room refl
-climb_up s zero k st links l (over a z e u) = absurd (not-suc-le-zero l)
+climb_up s zero k st links l (over a z e u) = absurd (omega arith)
 climb_up s (suc room) k (o ∷ st) links l (over a z e u) =
-    climb_below s k o.index links room (Parent (inner_index st)) (λ w. omega arith) a e
+    climb_below s k o.index links room (λ w. omega arith) a e
     ∙ climb_up s room o.index st (o.index ∷ links) (omega arith) u
 
-pub climb_opener : (s : List ℕ) (i : ℕ) (st : List Open) → opener_of s i ≡ Parent (inner_index st) → length st ≤ 64 → Up s i st →
+pub climb_opener : (s : List ℕ) (i : ℕ) (st : List Open) → Ok (inner_index st) ≡ opener_of s i → length st ≤ 64 → Up s i st →
     climb_of s i ≡ reached_by (reverse (indexes st))
 unfolding climb_of
-climb_opener s i st e l u = ap (climb_by s i) e ∙ climb_up s 64 i st [] l u
-
--- the chain of a stack, reversed, is the chain of the reversed stack
-pub reversed-stack : (st : List ℕ) → chain_of (reverse st) ≡ reversed (chain_of st)
-unfolding chain_of
-reversed-stack st =
-    let n : length (reverse st) ≡ length st = length-reverse st in
-    λ i. record {
-      at = reverse (sym (take_at (reverse st) (replicate (64 - length st) 0) (length st) n) i) ++ replicate (64 - n i) 0;
-      depth = n i;
-    }
+climb_opener s i st e l u = ap (climb_by s i) (sym e) ∙ climb_up s 64 i st [] l u

@@ -1,17 +1,14 @@
 -- Condition 3 (document 01), one claim over all streams, starts and positions, about what the calls return.
-use Rattle.std.specs.Prelude.{ℕ, ◌-◌, ◌≤◌, ◌≡◌, List, [], ◌++◌, reverse, take, replicate}
-use Rattle.common.specs.Reader.{refusal}
+use Rattle.std.specs.Prelude.{ℕ, ◌≤◌, ◌≡◌, List, [], length, reverse, Result, Ok, Err}
+use Rattle.std.specs.Result.{result_unwrap_or}
+use Rattle.common.specs.declared.Refusal.{Refusal}
+use Rattle.common.specs.declared.Refusal.TheVariants.{NothingThere}
 use Rattle.constants.specs.declared.Role.TheVariants.{Opens}
 use Rattle.iter.specs.Reading.{read_of, Some, Begins}
-use Rattle.chain.specs.Chain.{chain_of}
-use Rattle.chain.specs.declared.Chain.{Chain}
 use Rattle.constants.specs.Raw.{nesting_role_of}
+use Rattle.chain.specs.declared.Found.{Found}
 use Rattle.check_nesting.specs.declared.Counts.{Counts}
-use Rattle.check_nesting.specs.declared.Checked.TheVariants.{Good}
 use Rattle.check_nesting.specs.Check.{check_of}
-use Rattle.chain.specs.declared.finding.Outcome.TheVariants.{Answer}
-use Rattle.chain.specs.declared.finding.Finding.{Finding}
-use Rattle.chain.specs.Finding.{refused_by}
 use Rattle.walk.specs.Walk.{walk_from, walk_of}
 use Rattle.jump.specs.Jump.{jump_of}
 use Rattle.climb.specs.Climb.{climb_of}
@@ -23,32 +20,30 @@ OpenerBegins s start i = Some (λ r. (r.index ≡ i) × (nesting_role_of r.bytes
 
 -- The enclosing scopes at a position are the positions on the walk rule's stack when it reads the record there, before that record is
 -- pushed or pops, outermost first.
-abbrev pub enclosing : List ℕ → ℕ → ℕ → Chain
-enclosing s start i = chain_of (walk_from i (read_of s start) []).stack
+abbrev pub enclosing : List ℕ → ℕ → ℕ → List ℕ
+enclosing s start i = reverse (result_unwrap_or (walk_from i (read_of s start) []).out [])
 
--- Reversed is the same count with the positions in opposite order, zeros last.
-abbrev pub reversed : Chain → Chain
-reversed c = record { at = reverse (take c.depth c.at) ++ replicate (64 - c.depth) 0; depth = c.depth }
+-- a finder answers with these scopes and this count
+abbrev pub Finds : Result Found Refusal → List ℕ → ℕ → Type 0
+Finds found scopes count = found ≡ Ok (record { chain = scopes; count = count })
 
 -- Jumping and walking both answer, with the same enclosing scopes in the same order, and jumping returns no greater number of records
--- read than walking. (The same list is an equal chain, count and unused places included.)
-pub record BothAnswer (scopes : Chain) (walked jumped : Finding) : Type 0 where
-  pub walking_answers : walked.out ≡ Answer
-  pub jumping_answers : jumped.out ≡ Answer
-  pub walking_finds : walked.chain ≡ scopes
-  pub jumping_finds : jumped.chain ≡ scopes
-  pub jumping_reads_no_more : jumped.count ≤ walked.count
+-- read than walking. (An equal list is an equal chain, count and unused places included.)
+pub record BothAnswer (scopes : List ℕ) (walked jumped : Result Found Refusal) : Type 0 where
+  pub walking_reads : ℕ
+  pub jumping_reads : ℕ
+  pub walking_finds : Finds walked scopes walking_reads
+  pub jumping_finds : Finds jumped scopes jumping_reads
+  pub jumping_reads_no_more : jumping_reads ≤ walking_reads
 
 -- Both refuse, alike, with 14, which carries position 0 from both finders.
-pub record BothRefuse (walked jumped : Finding) : Type 0 where
-  pub walking_refuses : walked ≡ refused_by (refusal 14 0 0)
-  pub jumping_refuses : jumped ≡ refused_by (refusal 14 0 0)
+pub record BothRefuse (walked jumped : Result Found Refusal) : Type 0 where
+  pub walking_refuses : walked ≡ Err NothingThere
+  pub jumping_refuses : jumped ≡ Err NothingThere
 
 -- The parent fields, climbed, give that list reversed, without a refusal and with as many links as the list has scopes.
-pub record ClimbsThem (scopes : Chain) (climbed : Finding) : Type 0 where
-  pub climbing_answers : climbed.out ≡ Answer
-  pub climbing_finds : climbed.chain ≡ reversed scopes
-  pub as_many_links : climbed.count ≡ scopes.depth
+abbrev pub ClimbsThem : List ℕ → Result Found Refusal → Type 0
+ClimbsThem scopes climbed = Finds climbed (reverse scopes) (length scopes)
 
 pub record Agreement (s : List ℕ) (start i : ℕ) (a : Answers) : Type 0 where
   pub if_a_record_begins : Begins s start i → BothAnswer (enclosing s start i) a.walked a.jumped
@@ -57,7 +52,7 @@ pub record Agreement (s : List ℕ) (start i : ℕ) (a : Answers) : Type 0 where
 
 -- For every stream, every start from which it passes the nesting check, and every position, the answers agree.
 abbrev pub Condition3 : List ℕ → ℕ → ℕ → Answers → Type 0
-Condition3 s start i a = (n : Counts) → a.checked ≡ Good n → Agreement s start i a
+Condition3 s start i a = (n : Counts) → a.checked ≡ Ok n → Agreement s start i a
 
 -- what the four calls return
 abbrev pub answers_of : List ℕ → ℕ → ℕ → Answers

@@ -7,26 +7,27 @@
 ghost use Rattle.std.specs.Prelude.{◌≡◌};
 ghost use Rattle.agreement.specs.Agreement.{answers_of, Condition3};
 
-use chain::finding::Finding;
-use check_nesting::Checked;
+use chain::Found;
+use check_nesting::Counts;
+use common::Refusal;
 
-// What the four calls return.
-#[derive(Clone, Copy)]
+/// What the four calls return.
+#[derive(Clone, Copy, Debug, PartialEq, Eq)]
 pub struct Answers {
-    // The nesting check's, from the start.
-    pub checked: Checked,
+    /// The nesting check's, from the start.
+    pub checked: Result<Counts, Refusal>,
 
-    // The walk finder's, from the start to the position.
-    pub walked: Finding,
+    /// The walk finder's, from the start to the position.
+    pub walked: Result<Found, Refusal>,
 
-    // The jump finder's, from the start to the position.
-    pub jumped: Finding,
+    /// The jump finder's, from the start to the position.
+    pub jumped: Result<Found, Refusal>,
 
-    // The climb finder's, from the position.
-    pub climbed: Finding,
+    /// The climb finder's, from the position.
+    pub climbed: Result<Found, Refusal>,
 }
 
-// Asks the check of a stream from a start, and the three finders of a position in it.
+/// Asks the check of a stream from a start, and the three finders of a position in it.
 pub fn four_answers(s: &[u8], start: usize, i: usize) -> Answers
     ensures value { result ≡ answers_of s.now start i }
     ensures condition3 { Condition3 s.now start i result }

@@ -1,50 +1,60 @@
 -- The invariant of a finder's loop, for the walk finder and the jump finder alike.
 -- Assumes nothing.
-use mathlib.Core.Path.{◌≡◌, refl, ◌∙◌, ap}
-use mathlib.Core.List.{List, []}
-use Prim.Native.Nat.{ℕ, ◌+◌, ◌-◌, ◌≤◌}
-use native.Mathlib.Omega.{arith}
-use lib.ListN.{length}
-use Rattle.chain.specs.Chain.{chain_of}
-use Rattle.chain.specs.declared.Chain.{Chain}
-use Rattle.chain.proofs.Laws.{stack_depth}
-use Rattle.chain.specs.Finding.{Walk, answer_of, finding_of}
+use Rattle.std.proofs.Common.{ℕ, ◌+◌, ◌-◌, ◌≤◌, ◌≡◌, refl, sym, ◌∙◌, ap, List, [], ◌∷◌, ◌++◌, length, reverse, Ok, arith}
+use Rattle.std.proofs.lemmas.List.{reverse-append, reverse-reverse}
+use Rattle.iter.specs.Step.{scan_of, step_of}
+use Rattle.iter.specs.Reading.{Rec, rec_at}
+use Rattle.iter.specs.declared.Next.{Next}
+use Rattle.iter.specs.declared.Next.TheVariants.{Record}
+use Rattle.iter.proofs.Reading.{Stepped, step_fits}
+use Rattle.iter.proofs.Steps.{record_of}
+use Rattle.chain.specs.Finding.{Walk, seen, found_at, answer_of, finding_of}
 
--- F is the walk from a position with a stack, and L the stream's length. The chain is that of a stack, and the walk from the start
--- ends as the walk from here with that stack does, with the records read so far before its own.
-pub record Going (F : ℕ → List ℕ → Walk) (L start : ℕ) (chain : Chain) (at read : ℕ) : Type 0 where
-  pub stack : List ℕ
-  pub is_chain : chain ≡ chain_of stack
-  pub most : length stack ≤ 64
-  pub outs : (F start []).out ≡ (F at stack).out
-  pub stacks : (F start []).stack ≡ (F at stack).stack
-  pub counts : length (F start []).visited ≡ read + length (F at stack).visited
-  pub few : read + (L - at) ≤ L
+-- F is the walk from a position of the stream with a stack. The walk from the start ends as the walk from here does, with the stack that
+-- the chain lists, and with the records read so far before its own.
+pub record Going (F : ℕ → List ℕ → Walk) (s : List ℕ) (start : ℕ) (chain : List ℕ) (at read : ℕ) : Type 0 where
+  pub outs : (F start []).out ≡ (F at (reverse chain)).out
+  pub counts : length (F start []).visited ≡ read + length (F at (reverse chain)).visited
+  pub few : read + (length s - at) ≤ length s
 
-pub going_first : (F : ℕ → List ℕ → Walk) (L start : ℕ) (chain : Chain) → chain ≡ chain_of [] → Going F L start chain start 0
-going_first F L start chain e =
-    record { stack = []; is_chain = e; most = omega arith; outs = refl; stacks = refl; counts = omega arith; few = omega arith }
-
-module _ (F : ℕ → List ℕ → Walk) (L start : ℕ) (chain : Chain) (at read : ℕ) (g : Going F L start chain at read) where
-  pub depth_most : chain.depth ≤ 64
-  depth_most = rw (stack_depth g.stack g.is_chain) g.most
-
+module _ {F : ℕ → List ℕ → Walk} {s : List ℕ} {start : ℕ} {chain : List ℕ} {at read : ℕ} (g : Going F s start chain at read) where
   -- the answer, where the walk that is left is w
-  pub ends : (w : Walk) → F at g.stack ≡ w → answer_of w.out w.stack (read + length w.visited) ≡ finding_of (F start [])
-  ends w e = rw (g.outs, g.stacks, g.counts, e)
+  pub ends : {w : Walk} → F at (reverse chain) ≡ w → answer_of w.out (read + length w.visited) ≡ finding_of (F start [])
+  ends e = rw (g.outs, g.counts, e)
 
-  -- on to a later position, with another stack, m records further
-  pub onward : (q m : ℕ) (st : List ℕ) (ch : Chain) → ch ≡ chain_of st → length st ≤ 64 → at + m ≤ q → q ≤ L →
-      (w : Walk) → F at g.stack ≡ w → w.out ≡ (F q st).out → w.stack ≡ (F q st).stack → length w.visited ≡ m + length (F q st).visited →
-      Going F L start ch q (read + m)
-  onward q m st ch ec h a b w l eo es ev =
-      let v : length (F at g.stack).visited ≡ m + length (F q st).visited = ap (λ (x : Walk). length x.visited) l ∙ ev in
-      record {
-        stack = st;
-        is_chain = ec;
-        most = h;
-        outs = g.outs ∙ ap (λ (x : Walk). x.out) l ∙ eo;
-        stacks = g.stacks ∙ ap (λ (x : Walk). x.stack) l ∙ es;
-        counts = omega (arith, g.counts, v);
-        few = omega (arith, g.few);
-      }
+  -- on to a later position, with another chain, m records further
+  pub onward : (q m : ℕ) (ch : List ℕ) → at + m ≤ q → q ≤ length s →
+      {w : Walk} → F at (reverse chain) ≡ w → w.out ≡ (F q (reverse ch)).out → length w.visited ≡ m + length (F q (reverse ch)).visited →
+      Going F s start ch q (read + m)
+  onward q m ch a b {w} l eo ev =
+      let v : length (F at (reverse chain)).visited ≡ m + length (F q (reverse ch)).visited = ap (λ (x : Walk). length x.visited) l ∙ ev in
+      record { outs = g.outs ∙ ap (λ (x : Walk). x.out) l ∙ eo; counts = omega (arith, g.counts, v); few = omega (arith, g.few) }
+
+-- a turn of the loop, at a record that the step yields
+pub record AtRecord (F : ℕ → List ℕ → Walk) (s : List ℕ) (start : ℕ) (chain : List ℕ) (at read kind index from len next : ℕ) : Type 0 where
+  pub going : Going F s start chain at read
+  pub yields : (scan_of s at).step ≡ Ok (Record kind index from len next)
+  pub fits : Stepped s at index from len next
+
+pub at_record : {F : ℕ → List ℕ → Walk} {s : List ℕ} {start : ℕ} {chain : List ℕ} {at read : ℕ} {n : Next} {kind index from len next : ℕ} →
+    Going F s start chain at read → Ok n ≡ step_of s at → n ≡ Record kind index from len next → AtRecord F s start chain at read kind index from len next
+at_record {s = s} {at = at} {index = index} {from = from} {len = len} {next = next} g e f =
+    let h = record_of s at e f in
+    record { going = g; yields = h; fits = step_fits s at index from len next h }
+
+module _ {F : ℕ → List ℕ → Walk} {s : List ℕ} {start : ℕ} {chain : List ℕ} {at read kind index from len next : ℕ}
+    (y : AtRecord F s start chain at read kind index from len next) where
+  abbrev r : Rec
+  r = rec_at s (scan_of s at) index from len
+
+  -- with another chain, behind that record
+  pub turned : (ch : List ℕ) → F at (reverse chain) ≡ seen r (F next (reverse ch)) → Going F s start ch next (read + 1)
+  turned ch l = onward y.going next 1 ch (omega (arith, y.fits)) (omega (arith, y.fits)) l refl (omega arith)
+
+  -- with that record's index behind the others
+  pub pushed : {ch : List ℕ} → ch ≡ chain ++ index ∷ [] → F at (reverse chain) ≡ seen r (F next (index ∷ reverse chain)) → Going F s start ch next (read + 1)
+  pushed {ch} c l = turned ch (rw (c, reverse-append chain (index ∷ [])) l)
+
+  -- the answer, where that record is the one asked for
+  pub found : F at (reverse chain) ≡ found_at r (reverse chain) → Ok (record { chain = chain; count = read + 1 }) ≡ finding_of (F start [])
+  found l = rw (sym (reverse-reverse chain)) (ends y.going l)

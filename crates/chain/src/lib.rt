@@ -1,30 +1,92 @@
-// A chain of positions: the answer of the finders, and the stack of open scopes. Walk and jump list the outermost first, climb the
-// innermost.
+// What the finders answer with: a chain of positions, and how much was read for it.
+//
+// Walking and jumping list the outermost scope first, climbing the innermost.
 #![tactic(auto)]
 
-pub mod finding;
+ghost use Rattle.std.specs.Prelude.{◌≡◌, ◌<◌, [], ◌∷◌, ◌++◌, length};
+ghost use Rattle.chain.specs.Chain.{places};
 
-ghost use Rattle.std.specs.Prelude.{◌≡◌, []};
-ghost use Rattle.chain.specs.Chain.{chain_of};
+use std::marker::Model;
 
-// Up to 64 positions and their count.
-#[derive(Clone, Copy)]
+/// The most scopes that lie in one another, and the most positions that a chain lists.
+pub const MAX_DEPTH: usize = 64;
+
+/// Up to 64 positions.
+#[derive(Clone, Copy, Debug, PartialEq, Eq)]
 pub struct Chain {
-    // The positions, from the first place on; unused places are 0.
-    pub at: [u32; 64],
+    at: [u32; MAX_DEPTH],
+    depth: usize,
+}
 
-    // How many there are.
-    pub depth: usize,
+// Clauses see the positions, from the first place on.
+impl Model for Chain {
+    ghost use Rattle.std.specs.Prelude.{ℕ, ◌≤◌, ◌≡◌, List, length, take};
+
+    ghost Value = { List ℕ };
+
+    ghost use Rattle.chain.specs.Chain.{places};
+
+    ghost view = { λ c. take c.depth c.at };
+
+    ghost invariant = { λ c. (c.depth ≤ 64) × (length (take c.depth c.at) ≡ c.depth) × (places (take c.depth c.at) ≡ c.at) };
+
+    ghost inverse = { λ xs. record { at = places xs; depth = length xs } };
+
+    ghost inverse_ok = { λ c h i. record { at = h.2 i; depth = h.1 i } };
 }
 
 impl Chain {
-    // The chain of no position.
+    /// The chain of no position.
     pub fn new() -> Self
-        ensures { result ≡ chain_of [] }
+        ensures { result ≡ [] }
     {
         Chain {
-            at: [0u32; 64],
+            at: [0; MAX_DEPTH],
             depth: 0,
         }
     }
+
+    /// How many positions it lists.
+    pub fn len(&self) -> usize
+        ensures { result ≡ length self.now }
+    {
+        self.depth
+    }
+
+    /// Lists a position behind the others.
+    pub fn push(&mut self, position: u32)
+        requires { length self.old < 64 }
+        ensures { self.new ≡ self.old ++ position ∷ [] }
+    {
+        self.at[self.depth] = position;
+        self.depth += 1;
+    }
+
+    /// Takes the last position off. Its place is 0 again.
+    pub fn pop(&mut self) -> u32
+        requires { 0 < length self.old }
+        ensures { self.old ≡ self.new ++ result ∷ [] }
+    {
+        self.depth -= 1;
+        let position = self.at[self.depth];
+        self.at[self.depth] = 0;
+        position
+    }
+
+    /// All the places; unused ones are 0.
+    pub fn places(&self) -> &[u32; MAX_DEPTH]
+        ensures { result.now ≡ places self.now }
+    {
+        &self.at
+    }
+}
+
+/// What a finder answers with.
+#[derive(Clone, Copy, Debug, PartialEq, Eq)]
+pub struct Found {
+    /// The positions of the scopes that enclose the one asked for.
+    pub chain: Chain,
+
+    /// The number of records read; of a climb, of links.
+    pub count: usize,
 }

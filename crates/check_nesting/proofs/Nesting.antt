@@ -1,105 +1,92 @@
 -- The check passes exactly where reading ends at End and its records nest.
 -- Assumes nothing.
-use mathlib.Core.Path.{◌≡◌, refl, ◌∙◌, ap}
-use mathlib.Core.List.{List, [], ◌∷◌}
-use mathlib.Core.Bool.{Bool, true, false, cond}
-use Prim.Native.Nat.{ℕ, ◌<◌}
-use native.Mathlib.Omega.{arith}
-use lib.ListN.{length}
-use lib.Dec.{leb, eqb}
-use borrow.Author.Tests.{leb-false, lt-leb, eqb-true, eqb-false, eq-eqb, ne_eqb}
-use Rattle.common.specs.Reader.{refusal}
+use Rattle.std.proofs.Common.{ℕ, ◌<◌, ◌≡◌, refl, ap, ◌∙◌, arith, List, [], ◌∷◌, Option, None, Some, Result, Ok, Err}
+use Rattle.std.proofs.lemmas.Grind.{common_steps}
+use mathlib.Core.List.{tail}
 use Rattle.common.specs.declared.Refusal.{Refusal}
-use Rattle.constants.specs.declared.Role.{Role}
-use Rattle.constants.specs.declared.Role.TheVariants.{Neither, Opens, Closes}
-use Rattle.constants.specs.Raw.{nesting_role_of}
 use Rattle.iter.specs.Reading.{Rec, Ending, ends, refuses, read_of}
 use Rattle.links.specs.Links.{links_of}
 use Rattle.links.specs.declared.Links.{Links}
-use Rattle.links.specs.declared.Links.TheVariants as K
-use Rattle.check_nesting.specs.declared.stack.Open.{Open}
+use Rattle.check_nesting.specs.declared.act.Open.{Open}
 use Rattle.check_nesting.specs.declared.act.Act.{Act}
 use Rattle.check_nesting.specs.declared.act.Act.TheVariants as A
 use Rattle.check_nesting.specs.declared.Counts.{Counts}
-use Rattle.check_nesting.specs.declared.Checked.TheVariants as C
 use Rattle.check_nesting.specs.Stack.{inner_index}
-use Rattle.check_nesting.specs.Act.{open_of, close_of, act_of_role, act_of}
-use Rattle.check_nesting.specs.Check.{Verdict, Passes, Refused, on_act, on_end, verdict_on, verdict_from, counts_of, answer_by, check_of}
+use Rattle.check_nesting.specs.Act.{act_of}
+use Rattle.check_nesting.specs.Check.{Verdict, on_act, on_end, verdict_on, verdict_from, counts_of, answer_by, check_of}
 use Rattle.check_nesting.specs.Nesting.{Nests, done, passes, opens, closes}
-
--- a refusal is no pass
-refused_not_passes : {e : Refusal} → Refused e ≡ Passes → ⊥
-refused_not_passes q = let z : ◌≡◌ {A = ℕ} 0 1 = cc in omega arith
+use Rattle.check_nesting.proofs.Acts.{stay_role, push_role, push_room, pop_role, pop_some}
 
 -- reading ends at End, and its records nest in the stack
 pub record NestsIn (ending : Ending) (rs : List Rec) (st : List Open) : Type 0 where
   pub at_end : ending ≡ ends
   pub nests : Nests rs st
 
+-- what is known of an opener that is pushed
+pub record Opening (r : Rec) (st : List Open) (o : Open) (l : Links) : Type 0 where
+  pub above : 0 < r.index
+  pub parent : l.parent ≡ inner_index st
+  pub is : record { index = r.index; end = l.end } ≡ o
+
+module _ (r : Rec) (st : List Open) {o : Open} (e : Ok (A.Push o) ≡ act_of r st) where
+  unread : links_of r.bytes ≡ None → ⊥
+  unfolding act_of
+  unread g = grind (arith, common_steps, push_role r st e)
+
+  opening : (l : Links) → links_of r.bytes ≡ Some l → Opening r st o l
+  unfolding act_of
+  opening l g = grind (arith, common_steps, push_role r st e)
+
+closing : (r : Rec) (o : Open) (st : List Open) → Ok A.Pop ≡ act_of r (o ∷ st) → o.end ≡ r.index
+unfolding act_of
+closing r o st e = grind (arith, common_steps, pop_role r (o ∷ st) e)
+
 module _ (ending : Ending) where
-  -- the verdict on a record goes on from an act, and passes
-  abbrev Then : List Rec → List Open → Act → Type 0
-  Then rs st a = on_act st a (λ st'. verdict_on ending rs st') ≡ Passes
+  at_last : (st : List Open) → (e : Ending) → ending ≡ e → on_end e st ≡ Ok tt → NestsIn ending [] st
+  at_last st (refuses x) q h = cc
+  at_last [] ends q h = record { at_end = q; nests = done }
+  at_last (o ∷ st) ends q h = cc
 
-  module _ (r : Rec) (rs : List Rec) (ih : (st : List Open) → verdict_on ending rs st ≡ Passes → NestsIn ending rs st) where
-    at_opener : (st : List Open) → nesting_role_of r.bytes ≡ Opens → (l : Links) → links_of r.bytes ≡ l → Then rs st (open_of l r.index st) → NestsIn ending (r ∷ rs) st
-    at_opener st o K.Unread g h = absurd (refused_not_passes h)
-    at_opener st o (K.Read parent end) g h = by (eqb r.index 0) refl (eqb parent (inner_index st)) refl (leb 64 (length st)) refl h
-      where
-        by : (a : Bool) → eqb r.index 0 ≡ a → (b : Bool) → eqb parent (inner_index st) ≡ b → (c : Bool) → leb 64 (length st) ≡ c →
-            Then rs st (cond a (A.Refused (refusal 7 r.index 0)) (cond b (cond c (A.Refused (refusal 9 r.index 0)) (A.Push (record { index = r.index; end = end }))) (A.Refused (refusal 8 r.index 0)))) →
-            NestsIn ending (r ∷ rs) st
-        by true ea b eb c ec t = absurd (refused_not_passes t)
-        by false ea false eb c ec t = absurd (refused_not_passes t)
-        by false ea true eb true ec t = absurd (refused_not_passes t)
-        by false ea true eb false ec t =
-            let f : ¬ (r.index ≡ 0) = eqb-false r.index 0 ea in
-            let z : 0 < r.index = omega arith in
-            let k = ih _ t in
-            record { at_end = k.at_end; nests = opens {r = r} o g z (eqb-true _ _ eb) (leb-false _ _ ec) k.nests }
+  module _ (r : Rec) (rs : List Rec) (ih : (st : List Open) → verdict_on ending rs st ≡ Ok tt → NestsIn ending rs st) where
+    at_opener : (st : List Open) {o : Open} → Ok (A.Push o) ≡ act_of r st → verdict_on ending rs (o ∷ st) ≡ Ok tt → (l : Option Links) → links_of r.bytes ≡ l → NestsIn ending (r ∷ rs) st
+    at_opener st e h None g = absurd (unread r st e g)
+    at_opener st {o} e h (Some l) g =
+        let k = ih (o ∷ st) h in
+        let p = opening r st e l g in
+        record { at_end = k.at_end; nests = opens {l = l} (push_role r st e) g p.above (omega arith) (omega (arith, push_room r st e)) (rw p.is k.nests) }
 
-    at_closer : (st : List Open) → nesting_role_of r.bytes ≡ Closes → Then rs st (close_of r.index st) → NestsIn ending (r ∷ rs) st
-    at_closer [] o h = absurd (refused_not_passes h)
-    at_closer (x ∷ st) o h = by (eqb x.end r.index) refl h
-      where
-        by : (b : Bool) → eqb x.end r.index ≡ b → Then rs (x ∷ st) (cond b A.Pop (A.Refused (refusal 11 r.index 0))) → NestsIn ending (r ∷ rs) (x ∷ st)
-        by true eb t = let k = ih st t in record { at_end = k.at_end; nests = closes o (eqb-true _ _ eb) k.nests }
-        by false eb t = absurd (refused_not_passes t)
+    at_closer : (st : List Open) → Ok A.Pop ≡ act_of r st → verdict_on ending rs (tail st) ≡ Ok tt → NestsIn ending (r ∷ rs) st
+    at_closer [] e h = absurd (omega (arith, pop_some r [] e))
+    at_closer (o ∷ st) e h = let k = ih st h in record { at_end = k.at_end; nests = closes (pop_role r (o ∷ st) e) (closing r o st e) k.nests }
 
-    at_role : (st : List Open) (ro : Role) → nesting_role_of r.bytes ≡ ro → Then rs st (act_of_role ro r st) → NestsIn ending (r ∷ rs) st
-    at_role st Neither o h = let k = ih st h in record { at_end = k.at_end; nests = passes o k.nests }
-    at_role st Opens o h = at_opener st o (links_of r.bytes) refl h
-    at_role st Closes o h = at_closer st o h
+    at_act : (st : List Open) (a : Result Act Refusal) → a ≡ act_of r st → on_act st a (verdict_on ending rs) ≡ Ok tt → NestsIn ending (r ∷ rs) st
+    at_act st (Ok A.Stay) e h = let k = ih st h in record { at_end = k.at_end; nests = passes (stay_role r st e) k.nests }
+    at_act st (Ok (A.Push o)) e h = at_opener st e h (links_of r.bytes) refl
+    at_act st (Ok A.Pop) e h = at_closer st e h
+    at_act st (Err x) e h = cc
 
-at_last : (ending : Ending) (st : List Open) → on_end ending st ≡ Passes → NestsIn ending [] st
-at_last (refuses e) st h = absurd (refused_not_passes h)
-at_last ends [] h = record { at_end = refl; nests = done }
-at_last ends (o ∷ st) h = absurd (refused_not_passes h)
+pub passes_nests : (ending : Ending) (rs : List Rec) (st : List Open) → verdict_on ending rs st ≡ Ok tt → NestsIn ending rs st
+unfolding verdict_on
+passes_nests ending [] st h = at_last ending st ending refl h
+passes_nests ending (r ∷ rs) st h = at_act ending r rs (passes_nests ending rs) st (act_of r st) refl h
 
-pub passes_nests : (ending : Ending) (rs : List Rec) (st : List Open) → verdict_on ending rs st ≡ Passes → NestsIn ending rs st
-unfolding verdict_on act_of
-passes_nests ending [] st h = at_last ending st h
-passes_nests ending (r ∷ rs) st h = at_role ending r rs (passes_nests ending rs) st (nesting_role_of r.bytes) refl h
-
-pub nests_passes : {rs : List Rec} {st : List Open} → Nests rs st → verdict_on ends rs st ≡ Passes
+pub nests_passes : {rs : List Rec} {st : List Open} → Nests rs st → verdict_on ends rs st ≡ Ok tt
 unfolding verdict_on act_of
 nests_passes done = refl
-nests_passes (passes {r = r} o d) = let p = nests_passes d in rw o p
-nests_passes (opens {r = r} {st = st} {parent = parent} o g z t m d) =
-    let p = nests_passes d in
-    rw (o, g, ne_eqb r.index 0 (λ e. omega arith), eq-eqb parent (inner_index st) t, lt-leb 64 (length st) m) p
-nests_passes (closes {r = r} {o = x} o t d) = let p = nests_passes d in rw (o, eq-eqb x.end r.index t) p
+nests_passes (passes o d) = let p = nests_passes d in rw o p
+nests_passes (opens o g z t m d) = let p = nests_passes d in rw (o, g) (grind (arith, common_steps, p))
+nests_passes (closes o t d) = let p = nests_passes d in rw o (grind (arith, common_steps, p))
 
 -- the same of the check
-pub good_nests : (s : List ℕ) (start : ℕ) (n : Counts) → check_of s start ≡ C.Good n → NestsIn (read_of s start).last.ending (read_of s start).recs []
+pub good_nests : (s : List ℕ) (start : ℕ) {n : Counts} → check_of s start ≡ Ok n → NestsIn (read_of s start).last.ending (read_of s start).recs []
 unfolding check_of verdict_from
-good_nests s start n = by (verdict_from (read_of s start) []) refl
+good_nests s start {n} = by (verdict_from (read_of s start) []) refl
   where
-    by : (v : Verdict) → verdict_from (read_of s start) [] ≡ v → answer_by v (counts_of (read_of s start)) ≡ C.Good n → NestsIn (read_of s start).last.ending (read_of s start).recs []
-    by Passes e q = passes_nests (read_of s start).last.ending (read_of s start).recs [] e
-    by (Refused x) e q = absurd (let z : ◌≡◌ {A = ℕ} 0 1 = cc in omega arith)
+    by : (v : Verdict) → verdict_from (read_of s start) [] ≡ v → answer_by v (counts_of (read_of s start)) ≡ Ok n → NestsIn (read_of s start).last.ending (read_of s start).recs []
+    by (Ok u) e q = passes_nests (read_of s start).last.ending (read_of s start).recs [] e
+    by (Err x) e q = cc
 
-pub nests_good : (s : List ℕ) (start : ℕ) → NestsIn (read_of s start).last.ending (read_of s start).recs [] → check_of s start ≡ C.Good (counts_of (read_of s start))
+pub nests_good : (s : List ℕ) (start : ℕ) → NestsIn (read_of s start).last.ending (read_of s start).recs [] → check_of s start ≡ Ok (counts_of (read_of s start))
 unfolding check_of verdict_from
 nests_good s start k =
     ap (λ (v : Verdict). answer_by v (counts_of (read_of s start)))

@@ -1,39 +1,37 @@
 -- Check (document 01, "Check"): walks steps to End with a stack of open openers.
-use Rattle.std.specs.Prelude.{ℕ, ◌+◌, ◌-◌, max, ◌≡◌, cond, length}
-use mathlib.Core.List.{List, [], ◌∷◌, tail}
-use Rattle.common.specs.Reader.{refusal}
+use Rattle.std.specs.Prelude.{ℕ, ◌+◌, ◌-◌, max, ◌≡◌, List, [], ◌∷◌, length, Result, Ok, Err, IfOk}
+use mathlib.Core.List.{tail}
+use Rattle.std.specs.List.{sum_by, count_by}
 use Rattle.common.specs.declared.Refusal.{Refusal}
+use Rattle.common.specs.declared.Refusal.TheVariants.{LeftOpen}
 use Rattle.constants.specs.Kind.{opens}
 use Rattle.constants.specs.Raw.{nesting_role_of}
 use Rattle.constants.specs.declared.Role.{Role}
 use Rattle.constants.specs.declared.Role.TheVariants.{Neither, Opens, Closes}
 use Rattle.iter.specs.Step.{within}
 use Rattle.iter.specs.Reading.{Rec, Ending, ends, refuses, Reading, read_of}
-use Rattle.check_nesting.specs.declared.stack.Open.{Open}
+use Rattle.check_nesting.specs.declared.act.Open.{Open}
 use Rattle.check_nesting.specs.declared.act.Act.{Act}
 use Rattle.check_nesting.specs.declared.act.Act.TheVariants as A
 use Rattle.check_nesting.specs.Act.{act_of}
 use Rattle.check_nesting.specs.declared.Counts.{Counts}
-use Rattle.check_nesting.specs.declared.Checked.{Checked}
-use Rattle.check_nesting.specs.declared.Checked.TheVariants as C
 
 -- what the check says of records: they nest, or the first refusal
-pub data Verdict : Type 0 where
-  Passes : Verdict
-  Refused : Refusal → Verdict
+abbrev pub Verdict : Type 0
+Verdict = Result Unit Refusal
 
 -- The verdict from a record, where `on` is the verdict on the records after it, with a stack.
-abbrev pub on_act : List Open → Act → (List Open → Verdict) → Verdict
-on_act st A.Stay on = on st
-on_act st (A.Push o) on = on (o ∷ st)
-on_act st A.Pop on = on (tail st)
-on_act st (A.Refused e) on = Refused e
+abbrev pub on_act : List Open → Result Act Refusal → (List Open → Verdict) → Verdict
+on_act st (Ok A.Stay) on = on st
+on_act st (Ok (A.Push o)) on = on (o ∷ st)
+on_act st (Ok A.Pop) on = on (tail st)
+on_act st (Err e) on = Err e
 
 -- Step's refusals with step's position. At End: 12 with the innermost open index.
 abbrev pub on_end : Ending → List Open → Verdict
-on_end (refuses e) st = Refused e
-on_end ends [] = Passes
-on_end ends (o ∷ st) = Refused (refusal 12 o.index 0)
+on_end (refuses e) st = Err e
+on_end ends [] = Ok tt
+on_end ends (o ∷ st) = Err (LeftOpen o.index)
 
 -- the verdict on the records that are left, and on how reading ends
 unfoldable pub verdict_on : Ending → List Rec → List Open → Verdict
@@ -55,40 +53,32 @@ unfoldable pub deepest_of : ℕ → List Rec → ℕ
 deepest_of depth [] = depth
 deepest_of depth (r ∷ rs) = max depth (deepest_of (depth_after (nesting_role_of r.bytes) depth) rs)
 
-unfoldable pub sum : (Rec → ℕ) → List Rec → ℕ
-sum of [] = 0
-sum of (r ∷ rs) = of r + sum of rs
-
--- the bytes of a record, length field included, and 1 for an opener
+-- the bytes of a record, length field included
 abbrev pub size : Rec → ℕ
 size r = 2 + length r.bytes
 
-abbrev pub opener : Rec → ℕ
-opener r = cond (opens (nesting_role_of r.bytes)) 1 0
-
 -- Records yielded and passed over, the bytes of each group (length fields included), openers, deepest nesting.
 unfoldable pub counts_of : Reading → Counts
-unfolding sum deepest_of
+unfolding deepest_of
 counts_of reading =
     record {
       records = length reading.recs;
-      bytes = sum size reading.recs;
-      fillers = sum (λ r. r.fillers) reading.recs + reading.last.fillers;
-      filler_bytes = sum (λ r. r.filler_bytes) reading.recs + reading.last.filler_bytes;
-      openers = sum opener reading.recs;
+      bytes = sum_by size reading.recs;
+      fillers = sum_by (λ r. r.fillers) reading.recs + reading.last.fillers;
+      filler_bytes = sum_by (λ r. r.filler_bytes) reading.recs + reading.last.filler_bytes;
+      openers = count_by (λ r. opens (nesting_role_of r.bytes)) reading.recs;
       deepest = deepest_of 0 reading.recs;
     }
 
 -- Answer: the counts, where the records nest.
-abbrev pub answer_by : Verdict → Counts → Checked
-answer_by Passes n = C.Good n
-answer_by (Refused e) n = C.Refused e
+abbrev pub answer_by : Verdict → Counts → Result Counts Refusal
+answer_by (Ok _) n = Ok n
+answer_by (Err e) n = Err e
 
-unfoldable pub check_of : List ℕ → ℕ → Checked
+unfoldable pub check_of : List ℕ → ℕ → Result Counts Refusal
 unfolding verdict_from counts_of
 check_of s start = answer_by (verdict_from (read_of s start) []) (counts_of (read_of s start))
 
 -- The two byte sums add up to stream length minus start, the start brought within the stream.
-abbrev pub AddsUp : Checked → List ℕ → ℕ → Type 0
-AddsUp (C.Good n) s start = n.bytes + n.filler_bytes ≡ length s - within s start
-AddsUp (C.Refused e) s start = Unit
+abbrev pub AddsUp : Result Counts Refusal → List ℕ → ℕ → Type 0
+AddsUp r s start = IfOk r (λ n. n.bytes + n.filler_bytes ≡ length s - within s start)

@@ -2,109 +2,63 @@
 #![tactic(auto)]
 
 pub mod act;
-pub mod stack;
 
-ghost use Rattle.std.specs.Prelude.{◌≡◌, List, max, length};
+ghost use Rattle.std.specs.Prelude.{◌≡◌, reverse};
 ghost use Rattle.iter.specs.Reading.{ends};
-ghost use Rattle.check_nesting.specs.declared.stack.Open.{Open};
-ghost use Rattle.check_nesting.specs.Stack.{inner_index};
 ghost use Rattle.check_nesting.specs.Check.{on_end, answer_by, check_of, AddsUp};
 
-use act::{Act, act_at};
+use act::{Act, Open, act_at};
+use arrayvec::ArrayVec;
+use chain::MAX_DEPTH;
 use common::Refusal;
 use iter::Next;
-use stack::Stack;
 
-// What a stream holds, from the start that is checked on.
-#[derive(Clone, Copy)]
+/// What a stream holds, from the start that is checked on.
+#[derive(Clone, Copy, Debug, Default, PartialEq, Eq)]
 pub struct Counts {
-    // The records that steps yield.
+    /// The records that steps yield.
     pub records: usize,
 
-    // Their bytes, length fields included.
+    /// Their bytes, length fields included.
     pub bytes: usize,
 
-    // The fillers passed over.
+    /// The fillers passed over.
     pub fillers: usize,
 
-    // Their bytes, length fields included.
+    /// Their bytes, length fields included.
     pub filler_bytes: usize,
 
-    // The records that open a scope.
+    /// The records that open a scope.
     pub openers: usize,
 
-    // How many scopes are open where the most are.
+    /// How many scopes are open where the most are.
     pub deepest: usize,
 }
 
-// What the nesting check answers.
-#[derive(Clone, Copy)]
-pub enum Checked {
-    // The stream nests, and holds so much.
-    Good(Counts),
-
-    // It does not, for this reason.
-    Refused(Refusal),
-}
-
-fn no_counts() -> Counts
-    ensures { result ≡ record { records = 0; bytes = 0; fillers = 0; filler_bytes = 0; openers = 0; deepest = 0 } }
+/// The answer at End, with these openers open, the innermost last.
+fn at_end(n: Counts, stack: &[Open]) -> Result<Counts, Refusal>
+    ensures { result ≡ answer_by (on_end ends (reverse stack.now)) n }
 {
-    Counts {
-        records: 0,
-        bytes: 0,
-        fillers: 0,
-        filler_bytes: 0,
-        openers: 0,
-        deepest: 0,
+    match stack.last() {
+        None => Ok(n),
+        Some(o) => Err(Refusal::LeftOpen(o.index)),
     }
 }
 
-// The larger of two depths.
-fn deeper(a: usize, b: usize) -> usize
-    ensures { result ≡ max a b }
-{
-    if a < b {
-        return b;
-    }
-    a
-}
-
-// The answer at End, with so many openers open and this the innermost's index. The counts are given field by field: copied whole into the
-// answer, where a refusal's number of one byte has its place, the count of records is kept in two pieces all along the loop.
-fn at_end(n: Counts, depth: usize, inner: u32) -> Checked
-    ensures { (st : List Open) → length st ≡ depth → inner_index st ≡ inner → result ≡ answer_by (on_end ends st) n }
-{
-    if depth == 0 {
-        return Checked::Good(Counts {
-            records: n.records,
-            bytes: n.bytes,
-            fillers: n.fillers,
-            filler_bytes: n.filler_bytes,
-            openers: n.openers,
-            deepest: n.deepest,
-        });
-    }
-    Checked::Refused(Refusal::at(Refusal::LEFT_OPEN, inner as usize))
-}
-
-// Whether the stream nests from the start on.
-pub fn check(s: &[u8], start: usize) -> Checked
+/// Whether the stream nests from a start on, and what it holds.
+pub fn check(s: &[u8], start: usize) -> Result<Counts, Refusal>
     ensures value { result ≡ check_of s.now start }
     ensures adds_up { AddsUp result s.now start }
 {
-    let mut st = Stack::new();
-    let mut n = no_counts();
+    let mut stack: ArrayVec<Open, MAX_DEPTH> = ArrayVec::new();
+    let mut n = Counts::default();
     let mut at = start;
     loop {
-        let c = iter::scan_at(s, at);
-        let found = c.step;
-        let depth = st.opens.depth;
-        n.fillers = n.fillers + c.fillers;
-        n.filler_bytes = n.filler_bytes + c.filler_bytes;
-        match found {
-            Next::End(_) => return at_end(n, depth, stack::innermost(&st.opens.at, depth)),
-            Next::Refused(e) => return Checked::Refused(e),
+        let scan = iter::scan_at(s, at);
+        n.fillers += scan.fillers;
+        n.filler_bytes += scan.filler_bytes;
+        match scan.step? {
+            Next::End(_) => return at_end(n, &stack),
             Next::Record {
                 kind,
                 index,
@@ -112,19 +66,19 @@ pub fn check(s: &[u8], start: usize) -> Checked
                 len,
                 next,
             } => {
-                n.records = n.records + 1;
-                n.bytes = n.bytes + (2 + len);
                 at = next;
-                match act_at(kind, &s[from..next], index, &st.opens.at, &st.ends, depth) {
+                n.records += 1;
+                n.bytes += 2 + len;
+                match act_at(kind, &s[from..next], index, &stack)? {
                     Act::Stay => {}
                     Act::Push(o) => {
-                        st.opens.depth = stack::push(&mut st.opens.at, depth, o.index);
-                        st.ends[depth] = o.end;
-                        n.openers = n.openers + 1;
-                        n.deepest = deeper(n.deepest, depth + 1);
+                        stack.push(o);
+                        n.openers += 1;
+                        n.deepest = n.deepest.max(stack.len());
                     }
-                    Act::Pop => st.opens.depth = stack::pop(&mut st.opens.at, depth),
-                    Act::Refused(e) => return Checked::Refused(e),
+                    Act::Pop => {
+                        stack.pop();
+                    }
                 }
             }
         }

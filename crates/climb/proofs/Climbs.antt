@@ -1,19 +1,10 @@
 -- Laws of the climb finder: what a turn of its loop does to the climb that is left.
 -- Assumes nothing.
-use mathlib.Core.Path.{◌≡◌, refl, sym, ◌∙◌, ap}
-use mathlib.Core.List.{List, [], ◌∷◌}
-use Prim.Native.Nat.{ℕ, zero, suc, ◌-◌, ◌≤◌, ◌<◌}
-use native.Mathlib.Omega.{arith}
-use lib.ListN.{length}
-use borrow.Author.Tests.{le-leb, lt-leb, eq-eqb, ne_eqb}
-use Rattle.common.specs.Reader.{refusal}
+use Rattle.std.proofs.Common.{ℕ, zero, suc, ◌+◌, ◌-◌, ◌≤◌, ◌<◌, ◌≡◌, sym, ap, ◌∙◌, arith, length-append, List, [], ◌∷◌, ◌++◌, length, reverse, Result, Ok, Err}
+use Rattle.std.proofs.lemmas.Grind.{common_steps}
+use Rattle.std.proofs.lemmas.List.{reverse-append, reverse-reverse, length-reverse}
 use Rattle.common.specs.declared.Refusal.{Refusal}
-use Rattle.chain.specs.Chain.{chain_of}
-use Rattle.chain.specs.declared.Chain.{Chain}
-use Rattle.chain.specs.Finding.{found_by, refused_by}
-use Rattle.chain.proofs.Laws.{pushed, stack_depth, push_stack}
-use Rattle.climb.specs.declared.opener.Opener.{Opener}
-use Rattle.climb.specs.declared.opener.Opener.TheVariants as O
+use Rattle.common.specs.declared.Refusal.TheVariants.{TooDeep, UnusableLink}
 use Rattle.climb.specs.Opener.{opener_of}
 use Rattle.climb.specs.Climb.{reached_by, on_parent, climb_on}
 
@@ -21,65 +12,56 @@ use Rattle.climb.specs.Climb.{reached_by, on_parent, climb_on}
 module _ (s : List ℕ) (index parent : ℕ) (st : List ℕ) where
   pub climb_top : (room : ℕ) → parent ≡ 0 → climb_on room s index parent st ≡ reached_by st
   unfolding climb_on
-  climb_top zero e = rw (eq-eqb parent 0 e)
-  climb_top (suc room) e = rw (eq-eqb parent 0 e)
+  climb_top zero e = grind (arith, common_steps)
+  climb_top (suc room) e = grind (arith, common_steps)
 
-  pub climb_full : ¬ (parent ≡ 0) → climb_on 0 s index parent st ≡ refused_by (refusal 9 0 0)
+  pub climb_full : ¬ (parent ≡ 0) → climb_on 0 s index parent st ≡ Err (TooDeep 0)
   unfolding climb_on
-  climb_full z = rw (ne_eqb parent 0 z)
+  climb_full z = grind (arith, common_steps)
 
-  pub climb_above : (room : ℕ) → ¬ (parent ≡ 0) → index ≤ parent → climb_on (suc room) s index parent st ≡ refused_by (refusal 13 0 0)
+  pub climb_above : (room : ℕ) → ¬ (parent ≡ 0) → index ≤ parent → climb_on (suc room) s index parent st ≡ Err UnusableLink
   unfolding climb_on
-  climb_above room z h = rw (ne_eqb parent 0 z, le-leb index parent h)
+  climb_above room z h = grind (arith, common_steps)
 
-  pub climb_below : (room : ℕ) (o : Opener) → ¬ (parent ≡ 0) → parent < index → opener_of s parent ≡ o →
+  pub climb_below : (room : ℕ) {o : Result ℕ Refusal} → ¬ (parent ≡ 0) → parent < index → o ≡ opener_of s parent →
       climb_on (suc room) s index parent st ≡ on_parent o (λ next. climb_on room s parent next (parent ∷ st))
   unfolding climb_on
-  climb_below room o z h e = rw (ne_eqb parent 0 z, lt-leb index parent h, e)
+  climb_below room z h e = grind (arith, common_steps)
 
--- The loop's invariant: the chain is that of the links made, and the climb from the opener ends as the climb from here does.
-pub record Climbing (s : List ℕ) (i first : ℕ) (chain : Chain) (index parent : ℕ) : Type 0 where
-  pub links : List ℕ
-  pub is_chain : chain ≡ chain_of links
-  pub most : length links ≤ 64
-  pub same : climb_on 64 s i first [] ≡ climb_on (64 - length links) s index parent links
+-- The loop's invariant: the climb from the opener ends as the climb from here does, with the links that the chain lists.
+pub record Climbing (s : List ℕ) (i first : ℕ) (chain : List ℕ) (index parent : ℕ) : Type 0 where
+  pub most : length chain ≤ 64
+  pub same : climb_on 64 s i first [] ≡ climb_on (64 - length chain) s index parent (reverse chain)
 
-pub climbing_first : (s : List ℕ) (i first : ℕ) (chain : Chain) → chain ≡ chain_of [] → Climbing s i first chain i first
-climbing_first s i first chain e = record { links = []; is_chain = e; most = omega arith; same = refl }
+module _ {s : List ℕ} {i first : ℕ} {chain : List ℕ} {index parent : ℕ} (g : Climbing s i first chain index parent) {d : ℕ} (ed : d ≡ length chain) where
+  pub at_top : parent ≡ 0 → Ok (record { chain = chain; count = d }) ≡ climb_on 64 s i first []
+  at_top e = sym (g.same ∙ climb_top s index parent (reverse chain) (64 - length chain) e ∙ rw (reverse-reverse chain, length-reverse chain, ed))
 
-module _ (s : List ℕ) (i first : ℕ) (chain : Chain) (index parent : ℕ) (g : Climbing s i first chain index parent) where
-  pub at_top : parent ≡ 0 → found_by chain chain.depth ≡ climb_on 64 s i first []
-  at_top e =
-      (λ j. found_by (g.is_chain j) (stack_depth g.links g.is_chain j))
-      ∙ sym (g.same ∙ climb_top s index parent g.links (64 - length g.links) e)
+  module _ (z : ¬ (parent ≡ 0)) where
+    pub at_full : 64 ≤ d → Err (TooDeep 0) ≡ climb_on 64 s i first []
+    at_full h =
+        let none : 64 - length chain ≡ 0 = omega arith in
+        sym (g.same ∙ rw none (climb_full s index parent (reverse chain) z))
 
-  pub at_full : ¬ (parent ≡ 0) → 64 ≤ chain.depth → refused_by (refusal 9 0 0) ≡ climb_on 64 s i first []
-  at_full z h =
-      let none : 64 - length g.links ≡ 0 = omega (arith, stack_depth g.links g.is_chain) in
-      sym (g.same ∙ ap (λ (n : ℕ). climb_on n s index parent g.links) none ∙ climb_full s index parent g.links z)
+    -- with room for one more link
+    module _ (h : d < 64) where
+      left : climb_on 64 s i first [] ≡ climb_on (suc (63 - d)) s index parent (reverse chain)
+      left =
+          let one : 64 - length chain ≡ suc (63 - d) = omega arith in
+          g.same ∙ ap (λ (n : ℕ). climb_on n s index parent (reverse chain)) one
 
-  -- with room for one more link
-  module _ (z : ¬ (parent ≡ 0)) (h : chain.depth < 64) where
-    left : climb_on 64 s i first [] ≡ climb_on (suc (63 - length g.links)) s index parent g.links
-    left =
-        let one : 64 - length g.links ≡ suc (63 - length g.links) = omega (arith, stack_depth g.links g.is_chain) in
-        g.same ∙ ap (λ (n : ℕ). climb_on n s index parent g.links) one
+      pub at_above : index ≤ parent → Err UnusableLink ≡ climb_on 64 s i first []
+      at_above l = sym (left ∙ climb_above s index parent (reverse chain) (63 - d) z l)
 
-    pub at_above : index ≤ parent → refused_by (refusal 13 0 0) ≡ climb_on 64 s i first []
-    at_above l = sym (left ∙ climb_above s index parent g.links (63 - length g.links) z l)
+      module _ (l : parent < index) {o : Result ℕ Refusal} (eo : o ≡ opener_of s parent) where
+        pub at_missing : {e : Refusal} → o ≡ Err e → Err UnusableLink ≡ climb_on 64 s i first []
+        at_missing f = sym (left ∙ climb_below s index parent (reverse chain) (63 - d) z l (sym f ∙ eo))
 
-    pub at_missing : parent < index → (e : Refusal) → opener_of s parent ≡ O.Refused e → refused_by (refusal 13 0 0) ≡ climb_on 64 s i first []
-    at_missing l e o = sym (left ∙ climb_below s index parent g.links (63 - length g.links) (O.Refused e) z l o)
-
-    pub going_up : parent < index → (next : ℕ) → opener_of s parent ≡ O.Parent next → Climbing s i first (pushed chain parent) parent next
-    going_up l next o =
-        let room : length g.links < 64 = omega (arith, stack_depth g.links g.is_chain) in
-        record {
-          links = parent ∷ g.links;
-          is_chain = push_stack g.links parent g.is_chain room;
-          most = room;
-          same =
-              left
-              ∙ climb_below s index parent g.links (63 - length g.links) (O.Parent next) z l o
-              ∙ ap (λ (n : ℕ). climb_on n s parent next (parent ∷ g.links)) (let e : 63 - length g.links ≡ 64 - suc (length g.links) = omega arith in e);
-        }
+        pub going_up : {next : ℕ} → o ≡ Ok next → {ch : List ℕ} → ch ≡ chain ++ parent ∷ [] → Climbing s i first ch parent next
+        going_up {next} f {ch} c =
+            let long : length ch ≡ length chain + 1 = simp (c, length-append) in
+            let room : 63 - d ≡ 64 - length ch = omega arith in
+            record {
+              most = omega arith;
+              same = left ∙ climb_below s index parent (reverse chain) (63 - d) z l (sym f ∙ eo) ∙ rw (room, c, reverse-append chain (parent ∷ []));
+            }

@@ -1,3 +1,2 @@
 pub mod Climbs
 pub mod Openers
-pub mod Numbers

@@ -8,50 +8,40 @@ pub mod opener;
 ghost use Rattle.std.specs.Prelude.{◌≡◌, []};
 ghost use Rattle.climb.specs.Climb.{climb_on, climb_of};
 
-use chain::Chain;
-use chain::finding::Finding;
+use chain::{Chain, Found, MAX_DEPTH};
 use common::Refusal;
-use opener::Opener;
 
-// The climb from an opener, whose parent field is `first`.
-fn climb_from(s: &[u8], i: usize, first: usize) -> Finding
+/// The climb from an opener, whose parent field is `first`.
+#[tactic(auto, using(crate::proofs::Openers::opener_fits, crate::proofs::Climbs::at_top, crate::proofs::Climbs::at_full))]
+fn climb_from(s: &[u8], i: usize, first: usize) -> Result<Found, Refusal>
     ensures { result ≡ climb_on 64 s.now i first [] }
 {
     let mut chain = Chain::new();
     let mut index = i;
     let mut parent = first;
-    loop {
-        let depth = chain.depth;
-        if parent == 0 {
-            return chain::finding::found(chain, depth);
-        }
-        if 64 <= depth {
-            return chain::finding::refused(Refusal::at(Refusal::TOO_DEEP, 0));
+    while parent != 0 {
+        if MAX_DEPTH <= chain.len() {
+            return Err(Refusal::TooDeep(0));
         }
         if index <= parent {
-            return chain::finding::refused(Refusal::at(Refusal::UNUSABLE_LINK, 0));
+            return Err(Refusal::UnusableLink);
         }
-        match opener::opener_at(s, parent) {
-            Opener::Refused(_) => return chain::finding::refused(Refusal::at(
-                Refusal::UNUSABLE_LINK,
-                0,
-            )),
-            Opener::Parent(next) => {
-                chain.at[depth] = parent as u32;
-                chain.depth = depth + 1;
-                index = parent;
-                parent = next;
-            }
-        }
+        let Ok(next) = opener::opener_at(s, parent) else {
+            return Err(Refusal::UnusableLink);
+        };
+        chain.push(parent as u32);
+        index = parent;
+        parent = next;
     }
+    let count = chain.len();
+    Ok(Found { chain, count })
 }
 
-// The scopes that enclose the opener at i, by parent fields.
-pub fn climb(s: &[u8], i: usize) -> Finding
+/// The scopes that enclose the opener at i, by parent fields.
+#[tactic(auto, unfolding(crate::specs::Climb::climb_of))]
+pub fn climb(s: &[u8], i: usize) -> Result<Found, Refusal>
     ensures { result ≡ climb_of s.now i }
 {
-    match opener::opener_at(s, i) {
-        Opener::Refused(e) => return chain::finding::refused(e),
-        Opener::Parent(parent) => return climb_from(s, i, parent),
-    }
+    let parent = opener::opener_at(s, i)?;
+    climb_from(s, i, parent)
 }

@@ -8,7 +8,7 @@ use Rattle.records.specs.declared.SymbolData.{SymbolData}
 use Rattle.records.specs.declared.SymbolData.TheVariants.{Block, SeparatedCode}
 
 -- BLOCKSYM32
-unfoldable pub block : ℕ → Reader SymbolData
+abbrev pub block : ℕ → Reader SymbolData
 block kind = do
   parent ← u32
   end ← u32
@@ -18,7 +18,7 @@ block kind = do
   done (Block (record { parent = parent; end = end; len = len; offset = offset; name = name }))
 
 -- SEPCODESYM; each offset stands apart from its section
-unfoldable pub separated_code : Reader SymbolData
+abbrev pub separated_code : Reader SymbolData
 separated_code = do
   parent ← u32
   end ← u32

@@ -1,4 +1,3 @@
-pub mod Answer
 pub mod Block
 pub mod End
 pub mod Inline

@@ -16,7 +16,7 @@ abbrev pub dpc_procedure : ℕ → Bool
 dpc_procedure kind = eqb kind 0x1155 || eqb kind 0x1156
 
 -- PROCSYM32
-unfoldable pub procedure : ℕ → Reader SymbolData
+abbrev pub procedure : ℕ → Reader SymbolData
 procedure kind = do
   parent ← index
   end ← u32
@@ -46,7 +46,7 @@ procedure kind = do
       }))
 
 -- LABELSYM32
-unfoldable pub label : ℕ → Reader SymbolData
+abbrev pub label : ℕ → Reader SymbolData
 label kind = do
   offset ← place
   flags ← u8

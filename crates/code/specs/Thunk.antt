@@ -9,20 +9,20 @@ use Rattle.records.specs.declared.SymbolData.{SymbolData}
 use Rattle.records.specs.declared.SymbolData.TheVariants.{Thunk}
 
 -- a delta, and a target that ends in a zero whatever the kind of the record
-unfoldable pub adjustor : Reader ThunkKind
+abbrev pub adjustor : Reader ThunkKind
 adjustor = do
   delta ← u16
   target ← cstring
   done (Adjustor (record { delta = delta; target = target }))
 
 -- the place in the table of virtual functions
-unfoldable pub vcall : Reader ThunkKind
+abbrev pub vcall : Reader ThunkKind
 vcall = do
   entry ← u16
   done (VCall entry)
 
 -- what stands behind the name of a thunk, by its ordinal (THUNK_ORDINAL). cvinfo.h has 5 and 6 too, for trampolines only; pdb takes them as unknown.
-unfoldable pub thunk_kind : ℕ → Reader ThunkKind
+abbrev pub thunk_kind : ℕ → Reader ThunkKind
 thunk_kind code =
     cond (eqb code 0) (done NoType)  -- THUNK_ORDINAL_NOTYPE
     (cond (eqb code 1) adjustor  -- THUNK_ORDINAL_ADJUSTOR
@@ -32,7 +32,7 @@ thunk_kind code =
     (done (Unknown code))))))
 
 -- THUNKSYM32
-unfoldable pub thunk : ℕ → Reader SymbolData
+abbrev pub thunk : ℕ → Reader SymbolData
 thunk kind = do
   parent ← index
   end ← u32

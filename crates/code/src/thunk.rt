@@ -1,88 +1,57 @@
 // Thunks: code that only leads to other code.
 ghost use Rattle.std.specs.Prelude.{◌≡◌};
-ghost use Rattle.records.specs.Answer.{decoded_of};
+ghost use Rattle.common.specs.Buffer.{Reads};
 ghost use Rattle.code.specs.Thunk.{adjustor, thunk_kind, thunk};
-ghost use Rattle.code.specs.Answer.{thunk_kind_of};
 
 use common::Refusal;
-use common::unsigned::ParsedU16;
-use names::ParsedPart;
-use records::{Decoded, SectionOffset, SymbolData, ThunkAdjustor, ThunkKind, ThunkSymbol};
+use common::buffer::ParseBuffer;
+use names::{parse_cstring, parse_symbol_name};
+use records::field::{parse_optional_index, parse_place};
+use records::{Decoded, SymbolData, ThunkAdjustor, ThunkKind, ThunkSymbol};
 
-// Where the name stands, and before it the code of the variant, whose data come behind it.
-pub const THUNK_NAME: usize = 23;
-
-pub const THUNK_VARIANT: usize = 22;
-
-// What reading the data of a thunk's variant answers: the variant and the position after it, or the refusal.
-#[derive(Clone, Copy)]
-pub enum ParsedThunkKind {
-    Value(ThunkKind, usize),
-    Refused(Refusal),
-}
-
-// The adjustor's target ends in a zero whatever the kind of the record.
-fn parse_adjustor(s: &[u8], at: usize) -> ParsedThunkKind
-    ensures { thunk_kind_of result ≡ adjustor s.now at }
+/// Reads an adjustor. Its target ends in a zero whatever the kind of the record.
+fn parse_adjustor(buf: &mut ParseBuffer) -> Result<ThunkKind, Refusal>
+    ensures { Reads adjustor buf.old result buf.new }
 {
-    match common::unsigned::parse_u16(s, at) {
-        ParsedU16::Value(delta, next) => match names::parse_cstring(s, next) {
-            ParsedPart::Value(target, end) => {
-                let data = ThunkAdjustor { delta, target };
-                ParsedThunkKind::Value(ThunkKind::Adjustor(data), end)
-            }
-            ParsedPart::Refused(e) => ParsedThunkKind::Refused(e),
-        },
-        ParsedU16::Refused(e) => ParsedThunkKind::Refused(e),
-    }
+    Ok(ThunkKind::Adjustor(ThunkAdjustor {
+        delta: buf.parse()?,
+        target: parse_cstring(buf)?,
+    }))
 }
 
-// What stands behind the name of a thunk, by the variant's code.
-pub fn parse_thunk_kind(s: &[u8], at: usize, code: u8) -> ParsedThunkKind
-    ensures { thunk_kind_of result ≡ thunk_kind code s.now at }
+/// Reads what stands behind the name of a thunk, by the variant's code.
+pub fn parse_thunk_kind(buf: &mut ParseBuffer, code: u8) -> Result<ThunkKind, Refusal>
+    ensures { Reads (thunk_kind code) buf.old result buf.new }
 {
     match code {
-        0 => ParsedThunkKind::Value(ThunkKind::NoType, at),
-        1 => parse_adjustor(s, at),
-        2 => match common::unsigned::parse_u16(s, at) {
-            ParsedU16::Value(entry, next) => ParsedThunkKind::Value(ThunkKind::VCall(entry), next),
-            ParsedU16::Refused(e) => ParsedThunkKind::Refused(e),
-        },
-        3 => ParsedThunkKind::Value(ThunkKind::PCode, at),
-        4 => ParsedThunkKind::Value(ThunkKind::Load, at),
-        _ => ParsedThunkKind::Value(ThunkKind::Unknown(code), at),
+        0 => Ok(ThunkKind::NoType),
+        1 => parse_adjustor(buf),
+        2 => Ok(ThunkKind::VCall(buf.parse()?)),
+        3 => Ok(ThunkKind::PCode),
+        4 => Ok(ThunkKind::Load),
+        _ => Ok(ThunkKind::Unknown(code)),
     }
 }
 
-pub fn parse_thunk(s: &[u8], kind: u16) -> Decoded
-    ensures { decoded_of result ≡ thunk kind s.now 2 }
+pub fn parse_thunk(mut buf: ParseBuffer, kind: u16) -> Decoded
+    ensures { result ≡ thunk kind buf.entry.bytes.now buf.entry.pos }
 {
-    if s.len() < THUNK_NAME {
-        return Decoded::Refused(Refusal::RUNS_OUT);
-    }
-    match names::parse_symbol_name(s, THUNK_NAME, kind) {
-        ParsedPart::Value(name, at) => match parse_thunk_kind(
-            s,
-            at,
-            common::u8_at(s, THUNK_VARIANT),
-        ) {
-            ParsedThunkKind::Value(variant, next) => {
-                let data = ThunkSymbol {
-                    parent: records::index_of(common::u32_at(s, 2)),
-                    end: common::u32_at(s, 6),
-                    next: records::index_of(common::u32_at(s, 10)),
-                    offset: SectionOffset {
-                        offset: common::u32_at(s, 14),
-                        section: common::u16_at(s, 18),
-                    },
-                    len: common::u16_at(s, 20),
-                    kind: variant,
-                    name,
-                };
-                return Decoded::Record(SymbolData::Thunk(data), next);
-            }
-            ParsedThunkKind::Refused(e) => return Decoded::Refused(e),
-        },
-        ParsedPart::Refused(e) => return Decoded::Refused(e),
-    }
+    let parent = parse_optional_index(&mut buf)?;
+    let end = buf.parse()?;
+    let next = parse_optional_index(&mut buf)?;
+    let offset = parse_place(&mut buf)?;
+    let len = buf.parse()?;
+    // The code of the variant, whose data come behind the name.
+    let code = buf.parse()?;
+    let name = parse_symbol_name(&mut buf, kind)?;
+    let data = ThunkSymbol {
+        parent,
+        end,
+        next,
+        offset,
+        len,
+        kind: parse_thunk_kind(&mut buf, code)?,
+        name,
+    };
+    Ok((SymbolData::Thunk(data), buf.pos))
 }

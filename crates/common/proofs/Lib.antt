@@ -1,5 +1,1 @@
-pub mod Laws
-pub mod Readers
 pub mod Numbers
-pub mod Rows
-pub mod TwosComplement

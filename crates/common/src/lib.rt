@@ -1,135 +1,150 @@
-// Numbers read where the caller has shown that their bytes are there, so that a record's room is tested once (pdb's src/common.rs,
-// ParseBuffer), and the refusal that every layer answers with.
+// What every layer stands on: the refusal that calls answer with, and the numbers that are read from lent bytes (pdb's src/common.rs).
 #![tactic(auto)]
 
-pub mod signed;
-pub mod unsigned;
+pub mod buffer;
+pub mod number;
 
-ghost use Rattle.std.specs.Prelude.{◌≡◌, ◌+◌, ◌≤◌, length, leb};
-ghost use Rattle.common.specs.Bytes.{le};
-ghost use Rattle.common.specs.Reader.{refusal};
+ghost use Rattle.std.specs.Prelude.{◌≡◌, ◌+◌, length, leb};
+ghost use Rattle.common.specs.Refused.{refusal_number, refusal_position, refusal_detail};
 
-// Why a call refuses.
-#[derive(Clone, Copy)]
-pub struct Refusal {
-    // The number of the refusal.
-    pub number: u8,
+use std::error::Error;
+use std::fmt;
 
-    // The position that it carries, 0 where it carries none.
-    pub position: usize,
+/// Why a call refuses. A position is 0 where the call names none.
+#[derive(Clone, Copy, Debug, PartialEq, Eq)]
+pub enum Refusal {
+    /// 1: the bytes run out, at this position.
+    UnexpectedEof(usize),
 
-    // The kind or the prefix that it carries, 0 where it carries none.
-    pub detail: u64,
+    /// 2: a length is below the two bytes of a kind; the position is behind the length.
+    SymbolTooShort(usize),
+
+    /// 3: no layout is known for this kind.
+    UnimplementedKind(u16),
+
+    /// 4: a numeric value begins with this unknown prefix.
+    UnexpectedNumericPrefix(u16),
+
+    /// 5: a stream or a record is longer than any that is read.
+    TooLong,
+
+    /// 6: decode refuses the opener at this position.
+    UnreadableOpener(usize),
+
+    /// 7: an opener stands at position 0, which means none.
+    OpenerAt0,
+
+    /// 8: the parent field of the opener at this position is not the innermost open scope.
+    WrongParent(usize),
+
+    /// 9: more than 64 scopes lie in one another; the opener that is one too many, where the call names it.
+    TooDeep(usize),
+
+    /// 10: a closer finds nothing open; its position, where the call names it.
+    NothingOpen(usize),
+
+    /// 11: the closer at this position is not where its opener's end field says.
+    WrongEnd(usize),
+
+    /// 12: the stream's end leaves the scope at this position open.
+    LeftOpen(usize),
+
+    /// 13: a link can't be followed.
+    UnusableLink,
+
+    /// 14: no record, opener, register list or entry stands there.
+    NothingThere,
 }
 
-// The numbers of refusals, by the names that the C header gives them.
 impl Refusal {
-    // The bytes run out.
-    pub const UNEXPECTED_EOF: u8 = 1;
-
-    // A length that is below the two bytes of a kind.
-    pub const SYMBOL_TOO_SHORT: u8 = 2;
-
-    // No layout is known for a kind, which is the detail.
-    pub const UNIMPLEMENTED_KIND: u8 = 3;
-
-    // A numeric value begins with an unknown prefix, which is the detail.
-    pub const UNEXPECTED_NUMERIC_PREFIX: u8 = 4;
-
-    // A stream or a record is longer than any that is read.
-    pub const TOO_LONG: u8 = 5;
-
-    // An opener that decode refuses.
-    pub const UNREADABLE_OPENER: u8 = 6;
-
-    // An opener at position 0, which means none.
-    pub const OPENER_AT_0: u8 = 7;
-
-    // A parent field other than the innermost open scope.
-    pub const WRONG_PARENT: u8 = 8;
-
-    // More than 64 scopes in one another.
-    pub const TOO_DEEP: u8 = 9;
-
-    // A closer with nothing open.
-    pub const NOTHING_OPEN: u8 = 10;
-
-    // A closer elsewhere than its opener's end field says.
-    pub const WRONG_END: u8 = 11;
-
-    // A scope that the stream's end leaves open.
-    pub const LEFT_OPEN: u8 = 12;
-
-    // A link that can't be followed.
-    pub const UNUSABLE_LINK: u8 = 13;
-
-    // No record, opener, register list or entry there.
-    pub const NOTHING_THERE: u8 = 14;
-
-    // What every read that finds too few bytes answers.
-    pub const RUNS_OUT: Refusal = Refusal {
-        number: Refusal::UNEXPECTED_EOF,
-        position: 0,
-        detail: 0,
-    };
-
-    // A refusal at a position.
-    pub fn at(number: u8, position: usize) -> Self
-        ensures { result ≡ refusal number position 0 }
+    /// The number that the C header gives the refusal.
+    pub fn number(self) -> u8
+        ensures { result ≡ refusal_number self }
     {
-        Self {
-            number,
-            position,
-            detail: 0,
+        match self {
+            Refusal::UnexpectedEof(_) => 1,
+            Refusal::SymbolTooShort(_) => 2,
+            Refusal::UnimplementedKind(_) => 3,
+            Refusal::UnexpectedNumericPrefix(_) => 4,
+            Refusal::TooLong => 5,
+            Refusal::UnreadableOpener(_) => 6,
+            Refusal::OpenerAt0 => 7,
+            Refusal::WrongParent(_) => 8,
+            Refusal::TooDeep(_) => 9,
+            Refusal::NothingOpen(_) => 10,
+            Refusal::WrongEnd(_) => 11,
+            Refusal::LeftOpen(_) => 12,
+            Refusal::UnusableLink => 13,
+            Refusal::NothingThere => 14,
         }
     }
 
-    // A refusal that carries a kind or a prefix.
-    pub fn of(number: u8, detail: u16) -> Self
-        ensures { result ≡ refusal number 0 detail }
+    /// The position that it carries, 0 where it carries none.
+    pub fn position(self) -> usize
+        ensures { result ≡ refusal_position self }
     {
-        Self {
-            number,
-            position: 0,
-            detail: detail as u64,
+        match self {
+            Refusal::UnexpectedEof(at) => at,
+            Refusal::SymbolTooShort(at) => at,
+            Refusal::UnreadableOpener(at) => at,
+            Refusal::WrongParent(at) => at,
+            Refusal::TooDeep(at) => at,
+            Refusal::NothingOpen(at) => at,
+            Refusal::WrongEnd(at) => at,
+            Refusal::LeftOpen(at) => at,
+            _ => 0,
+        }
+    }
+
+    /// The kind or the prefix that it carries, 0 where it carries none.
+    pub fn detail(self) -> u64
+        ensures { result ≡ refusal_detail self }
+    {
+        match self {
+            Refusal::UnimplementedKind(kind) => kind as u64,
+            Refusal::UnexpectedNumericPrefix(prefix) => prefix as u64,
+            _ => 0,
         }
     }
 }
 
-// Whether n bytes stand at a position.
+impl fmt::Display for Refusal {
+    fn fmt<W: fmt::Write>(&self, f: &mut fmt::Formatter<W>) -> fmt::Result {
+        match self {
+            Refusal::UnexpectedEof(at) => write!(f, "the bytes run out at {at}"),
+            Refusal::SymbolTooShort(at) => write!(
+                f,
+                "a record before {at} has no room for its kind"
+            ),
+            Refusal::UnimplementedKind(kind) => write!(
+                f,
+                "no layout is known for kind {kind:#06x}"
+            ),
+            Refusal::UnexpectedNumericPrefix(prefix) => {
+                write!(f, "a numeric value has the unknown prefix {prefix:#06x}")
+            }
+            Refusal::TooLong => write!(f, "longer than any stream or record that is read"),
+            Refusal::UnreadableOpener(at) => write!(f, "the opener at {at} can't be decoded"),
+            Refusal::OpenerAt0 => write!(f, "an opener stands at position 0"),
+            Refusal::WrongParent(at) => write!(
+                f,
+                "the parent of the opener at {at} is not the innermost scope"
+            ),
+            Refusal::TooDeep(at) => write!(f, "too many scopes lie in one another at {at}"),
+            Refusal::NothingOpen(at) => write!(f, "the closer at {at} finds nothing open"),
+            Refusal::WrongEnd(at) => write!(f, "the closer at {at} is not where its opener says"),
+            Refusal::LeftOpen(at) => write!(f, "the scope at {at} is left open"),
+            Refusal::UnusableLink => write!(f, "a link can't be followed"),
+            Refusal::NothingThere => write!(f, "nothing of the kind stands there"),
+        }
+    }
+}
+
+impl Error for Refusal {}
+
+/// Whether n bytes stand at a position.
 pub fn has_room(s: &[u8], at: usize, n: usize) -> bool
     ensures { result ≡ leb (at + n) (length s.now) }
 {
-    if s.len() < n {
-        return false;
-    }
-    if at <= s.len() - n { true } else { false }
-}
-
-pub fn u8_at(s: &[u8], at: usize) -> u8
-    requires { at + 1 ≤ length s.now }
-    ensures { result ≡ le 1 s.now at }
-{
-    s[at]
-}
-
-pub fn u16_at(s: &[u8], at: usize) -> u16
-    requires { at + 2 ≤ length s.now }
-    ensures { result ≡ le 2 s.now at }
-{
-    u8_at(s, at) as u16 + 0x100 * (u8_at(s, at + 1) as u16)
-}
-
-pub fn u32_at(s: &[u8], at: usize) -> u32
-    requires { at + 4 ≤ length s.now }
-    ensures { result ≡ le 4 s.now at }
-{
-    u16_at(s, at) as u32 + 0x1_0000 * (u16_at(s, at + 2) as u32)
-}
-
-pub fn u64_at(s: &[u8], at: usize) -> u64
-    requires { at + 8 ≤ length s.now }
-    ensures { result ≡ le 8 s.now at }
-{
-    u32_at(s, at) as u64 + 0x1_0000_0000 * (u32_at(s, at + 4) as u64)
+    n <= s.len() && at <= s.len() - n
 }

@@ -1,4 +1,3 @@
-pub mod Answer
 pub mod Compile
 pub mod Linkage
 pub mod Object

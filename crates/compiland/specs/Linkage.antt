@@ -8,7 +8,7 @@ use Rattle.records.specs.declared.SymbolData.{SymbolData}
 use Rattle.records.specs.declared.SymbolData.TheVariants.{Public, Export, Trampoline}
 
 -- PUBSYM32
-unfoldable pub public_symbol : ℕ → Reader SymbolData
+abbrev pub public_symbol : ℕ → Reader SymbolData
 public_symbol kind = do
   flags ← u32
   offset ← place
@@ -16,7 +16,7 @@ public_symbol kind = do
   done (Public (record { flags = public_flags flags; offset = offset; name = name }))
 
 -- EXPORTSYM: its flags are single bits of a u16
-unfoldable pub export_symbol : ℕ → Reader SymbolData
+abbrev pub export_symbol : ℕ → Reader SymbolData
 export_symbol kind = do
   ordinal ← u16
   flags ← u16
@@ -24,7 +24,7 @@ export_symbol kind = do
   done (Export (record { ordinal = ordinal; flags = export_flags flags; name = name }))
 
 -- TRAMPOLINE; each offset stands apart from its section
-unfoldable pub trampoline : Reader SymbolData
+abbrev pub trampoline : Reader SymbolData
 trampoline = do
   type ← u16
   size ← u16

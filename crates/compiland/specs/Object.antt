@@ -6,20 +6,20 @@ use Rattle.records.specs.declared.SymbolData.{SymbolData}
 use Rattle.records.specs.declared.SymbolData.TheVariants.{ObjName, UsingNamespace, BuildInfo}
 
 -- OBJNAMESYM
-unfoldable pub obj_name : ℕ → Reader SymbolData
+abbrev pub obj_name : ℕ → Reader SymbolData
 obj_name kind = do
   signature ← u32
   name ← symbol_name kind
   done (ObjName (record { signature = signature; name = name }))
 
 -- UNAMESPACE
-unfoldable pub using_namespace : ℕ → Reader SymbolData
+abbrev pub using_namespace : ℕ → Reader SymbolData
 using_namespace kind = do
   name ← symbol_name kind
   done (UsingNamespace (record { name = name }))
 
 -- BUILDINFOSYM
-unfoldable pub build_info : Reader SymbolData
+abbrev pub build_info : Reader SymbolData
 build_info = do
   id ← u32
   done (BuildInfo (record { id = id }))

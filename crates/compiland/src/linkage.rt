@@ -1,79 +1,59 @@
 // What the linker writes: publics, exports and trampolines.
 ghost use Rattle.std.specs.Prelude.{◌≡◌};
-ghost use Rattle.records.specs.Answer.{decoded_of};
 ghost use Rattle.compiland.specs.Linkage.{public_symbol, export_symbol, trampoline};
 
-use common::Refusal;
-use names::ParsedPart;
+use common::buffer::ParseBuffer;
+use names::parse_symbol_name;
+use records::field::parse_place;
 use records::flags::{ExportSymbolFlags, PublicFlags};
-use records::{Decoded, ExportSymbol, PublicSymbol, SectionOffset, SymbolData, TrampolineSymbol};
+use records::{
+    Decoded, ExportSymbol, PublicSymbol, SectionOffset, SymbolData, TrampolineSymbol,
+    TrampolineType,
+};
 
-// Where the name stands.
-pub const PUBLIC_NAME: usize = 12;
-
-pub const EXPORT_NAME: usize = 6;
-
-// Where the fields end.
-pub const TRAMPOLINE_END: usize = 18;
-
-pub fn parse_public(s: &[u8], kind: u16) -> Decoded
-    ensures { decoded_of result ≡ public_symbol kind s.now 2 }
+pub fn parse_public(mut buf: ParseBuffer, kind: u16) -> Decoded
+    ensures { result ≡ public_symbol kind buf.entry.bytes.now buf.entry.pos }
 {
-    if s.len() < PUBLIC_NAME {
-        return Decoded::Refused(Refusal::RUNS_OUT);
-    }
-    match names::parse_symbol_name(s, PUBLIC_NAME, kind) {
-        ParsedPart::Value(name, next) => {
-            let data = PublicSymbol {
-                flags: PublicFlags::from_bits(common::u32_at(s, 2)),
-                offset: SectionOffset {
-                    offset: common::u32_at(s, 6),
-                    section: common::u16_at(s, 10),
-                },
-                name,
-            };
-            return Decoded::Record(SymbolData::Public(data), next);
-        }
-        ParsedPart::Refused(e) => return Decoded::Refused(e),
-    }
+    let data = PublicSymbol {
+        flags: PublicFlags::from(buf.parse::<u32>()?),
+        offset: parse_place(&mut buf)?,
+        name: parse_symbol_name(&mut buf, kind)?,
+    };
+    Ok((SymbolData::Public(data), buf.pos))
 }
 
-pub fn parse_export(s: &[u8], kind: u16) -> Decoded
-    ensures { decoded_of result ≡ export_symbol kind s.now 2 }
+pub fn parse_export(mut buf: ParseBuffer, kind: u16) -> Decoded
+    ensures { result ≡ export_symbol kind buf.entry.bytes.now buf.entry.pos }
 {
-    if s.len() < EXPORT_NAME {
-        return Decoded::Refused(Refusal::RUNS_OUT);
-    }
-    match names::parse_symbol_name(s, EXPORT_NAME, kind) {
-        ParsedPart::Value(name, next) => {
-            let data = ExportSymbol {
-                ordinal: common::u16_at(s, 2),
-                flags: ExportSymbolFlags::from_bits(common::u16_at(s, 4)),
-                name,
-            };
-            return Decoded::Record(SymbolData::Export(data), next);
-        }
-        ParsedPart::Refused(e) => return Decoded::Refused(e),
-    }
+    let data = ExportSymbol {
+        ordinal: buf.parse()?,
+        flags: ExportSymbolFlags::from(buf.parse::<u16>()?),
+        name: parse_symbol_name(&mut buf, kind)?,
+    };
+    Ok((SymbolData::Export(data), buf.pos))
 }
 
-pub fn parse_trampoline(s: &[u8]) -> Decoded
-    ensures { decoded_of result ≡ trampoline s.now 2 }
+pub fn parse_trampoline(mut buf: ParseBuffer) -> Decoded
+    ensures { result ≡ trampoline buf.entry.bytes.now buf.entry.pos }
 {
-    if s.len() < TRAMPOLINE_END {
-        return Decoded::Refused(Refusal::RUNS_OUT);
-    }
+    let tramp_type = TrampolineType::from(buf.parse::<u16>()?);
+    let size = buf.parse()?;
+    // Each offset stands apart from its section.
+    let thunk_offset = buf.parse()?;
+    let target_offset = buf.parse()?;
+    let thunk_section = buf.parse()?;
+    let target_section = buf.parse()?;
     let data = TrampolineSymbol {
-        tramp_type: records::trampoline_type(common::u16_at(s, 2)),
-        size: common::u16_at(s, 4),
+        tramp_type,
+        size,
         thunk: SectionOffset {
-            offset: common::u32_at(s, 6),
-            section: common::u16_at(s, 14),
+            offset: thunk_offset,
+            section: thunk_section,
         },
         target: SectionOffset {
-            offset: common::u32_at(s, 10),
-            section: common::u16_at(s, 16),
+            offset: target_offset,
+            section: target_section,
         },
     };
-    Decoded::Record(SymbolData::Trampoline(data), TRAMPOLINE_END)
+    Ok((SymbolData::Trampoline(data), buf.pos))
 }

@@ -1,7 +1,7 @@
 -- Processors, as cvinfo.h (CV_CPU_TYPE_e) numbers those that `CPUType` knows. cvinfo.h has ARM64 at 0xf6 and its kin up to 0xf9; pdb has
 -- it at 0x69 alone.
-use Rattle.std.specs.Prelude.{ℕ, cond, List, [], ◌∷◌}
-use Rattle.constants.specs.Listed.{among}
+use Rattle.std.specs.Prelude.{ℕ, cond, List, [], ◌∷◌, eqb}
+use Rattle.std.specs.List.{list_any}
 
 unfoldable pub processors : List ℕ
 processors =
@@ -69,4 +69,4 @@ processors =
 
 -- Unknown processors read as Intel8080 (0).
 unfoldable pub cpu_type_of : ℕ → ℕ
-cpu_type_of k = cond (among k processors) k 0
+cpu_type_of k = cond (list_any (eqb k) processors) k 0

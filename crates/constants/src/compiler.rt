@@ -5,12 +5,14 @@ ghost use Rattle.constants.specs.Language.{source_language};
 
 use super::cpu_types::CPU_TYPES;
 
-// What an unknown processor and an unknown language read as.
+/// What an unknown processor reads as.
 const INTEL8080: u16 = 0;
 
+/// What an unknown language reads as.
 const MASM: u8 = 3;
 
-// A known processor's code, and that of Intel8080 for another.
+/// A known processor's code, and that of Intel8080 for another.
+#[tactic(auto, using(crate::proofs::Entries::in_table, crate::proofs::Entries::above))]
 pub fn cpu_type(code: u16) -> u16
     ensures { result ≡ cpu_type_of code }
 {
@@ -21,13 +23,12 @@ pub fn cpu_type(code: u16) -> u16
     }
 }
 
-// A known language's code, and that of Masm for another.
+/// A known language's code, and that of Masm for another.
 pub fn source_language(code: u8) -> u8
     ensures { result ≡ source_language code }
 {
-    if (code <= 0x10) | (code == 0x44) {
-        code
-    } else {
-        MASM
+    match code {
+        0..=0x10 | 0x44 => code,
+        _ => MASM,
     }
 }

@@ -1,50 +1,30 @@
 // What the kind of a record says of it (pdb's Symbol: raw_kind, starts_scope, ends_scope). These never refuse, at any length.
+#![tactic(auto, unfolding(crate::specs::Raw::raw_kind, crate::specs::Kind::starts_scope, crate::specs::Kind::ends_scope, common::specs::Reader::number))]
+
 ghost use Rattle.std.specs.Prelude.{◌≡◌};
-ghost use Rattle.constants.specs.Kind.{opens, closes, starts_scope, ends_scope};
+ghost use Rattle.constants.specs.Kind.{starts_scope, ends_scope};
 ghost use Rattle.constants.specs.Raw.{raw_kind};
 
 use super::Role;
+use common::buffer::ParseBuffer;
 
-// The kind; 0 below 2 bytes.
+/// The kind; 0 below 2 bytes.
 pub fn raw_kind(s: &[u8]) -> u16
     ensures { result ≡ raw_kind s.now }
 {
-    if s.len() < 2 {
-        return 0;
-    }
-    common::u16_at(s, 0)
+    ParseBuffer::new(s).parse().unwrap_or(0)
 }
 
-fn opens(role: Role) -> bool
-    ensures { result ≡ opens role }
-{
-    match role {
-        Role::Neither => false,
-        Role::Opens => true,
-        Role::Closes => false,
-    }
-}
-
-fn closes(role: Role) -> bool
-    ensures { result ≡ closes role }
-{
-    match role {
-        Role::Neither => false,
-        Role::Opens => false,
-        Role::Closes => true,
-    }
-}
-
-// Whether the record opens a scope.
+/// Whether the record opens a scope.
 pub fn starts_scope(s: &[u8]) -> bool
     ensures { result ≡ starts_scope (raw_kind s.now) }
 {
-    opens(super::role_of(raw_kind(s)))
+    super::role_of(raw_kind(s)) == Role::Opens
 }
 
-// Whether the record closes a scope.
+/// Whether the record closes a scope.
 pub fn ends_scope(s: &[u8]) -> bool
     ensures { result ≡ ends_scope (raw_kind s.now) }
 {
-    closes(super::role_of(raw_kind(s)))
+    super::role_of(raw_kind(s)) == Role::Closes
 }

@@ -1,462 +1,139 @@
-// The table of kinds: the class of each and its role in a scope.
-ghost use Rattle.std.specs.Prelude.{◌≡◌, ◌<◌};
-ghost use Rattle.constants.specs.Table.{code_of};
+// The table of kinds: those that are read, or that open or close a scope, as cvinfo.h numbers them, with the class and the role of each.
+#![tactic(auto, using(crate::proofs::Entries::unlisted), unfolding(crate::specs::Kind::class_of, crate::specs::Kind::role_of, crate::specs::Kind::find, crate::specs::Kind::kinds))]
 
-use super::classes;
-use super::classes::UNKNOWN;
-use super::rows::row;
+ghost use Rattle.std.specs.Prelude.{◌≡◌, ◌<◌, ◌≤◌};
+ghost use Rattle.constants.specs.Kind.{class_of, role_of};
 
-// An entry is the code of the class, four times its number (0 for UNKNOWN), with OPENS or CLOSES added for a kind that opens or closes a
-// scope.
-const SCOPE_END: u64 = 4 * classes::SCOPE_END;
+use super::Class::*;
+use super::Role::*;
+use super::{Class, Role};
 
-const OBJ_NAME: u64 = 4 * classes::OBJ_NAME;
-
-const REGISTER_VARIABLE: u64 = 4 * classes::REGISTER_VARIABLE;
-
-const CONSTANT: u64 = 4 * classes::CONSTANT;
-
-const USER_DEFINED_TYPE: u64 = 4 * classes::USER_DEFINED_TYPE;
-
-const MULTI_REGISTER_VARIABLE: u64 = 4 * classes::MULTI_REGISTER_VARIABLE;
-
-const DATA: u64 = 4 * classes::DATA;
-
-const PUBLIC: u64 = 4 * classes::PUBLIC;
-
-const PROCEDURE: u64 = 4 * classes::PROCEDURE;
-
-const THREAD_STORAGE: u64 = 4 * classes::THREAD_STORAGE;
-
-const COMPILE_FLAGS: u64 = 4 * classes::COMPILE_FLAGS;
-
-const USING_NAMESPACE: u64 = 4 * classes::USING_NAMESPACE;
-
-const PROCEDURE_REFERENCE: u64 = 4 * classes::PROCEDURE_REFERENCE;
-
-const DATA_REFERENCE: u64 = 4 * classes::DATA_REFERENCE;
-
-const ANNOTATION_REFERENCE: u64 = 4 * classes::ANNOTATION_REFERENCE;
-
-const TRAMPOLINE: u64 = 4 * classes::TRAMPOLINE;
-
-const EXPORT: u64 = 4 * classes::EXPORT;
-
-const LOCAL: u64 = 4 * classes::LOCAL;
-
-const BUILD_INFO: u64 = 4 * classes::BUILD_INFO;
-
-const INLINE_SITE: u64 = 4 * classes::INLINE_SITE;
-
-const INLINE_SITE_END: u64 = 4 * classes::INLINE_SITE_END;
-
-const PROCEDURE_END: u64 = 4 * classes::PROCEDURE_END;
-
-const LABEL: u64 = 4 * classes::LABEL;
-
-const BLOCK: u64 = 4 * classes::BLOCK;
-
-const REGISTER_RELATIVE: u64 = 4 * classes::REGISTER_RELATIVE;
-
-const THUNK: u64 = 4 * classes::THUNK;
-
-const SEPARATED_CODE: u64 = 4 * classes::SEPARATED_CODE;
-
-pub const OPENS: u64 = 1;
-
-pub const CLOSES: u64 = 2;
-
-// The entries of the kinds 0x1000 to 0x115F. `row` reads them in words of eight: an array that is indexed is written to the stack at
-// every call.
-pub const KINDS: [u64; 352] = [
-    UNKNOWN, // 0x1000
-    REGISTER_VARIABLE, // 0x1001 S_REGISTER_ST
-    CONSTANT, // 0x1002 S_CONSTANT_ST
-    USER_DEFINED_TYPE, // 0x1003 S_UDT_ST
-    USER_DEFINED_TYPE, // 0x1004 S_COBOLUDT_ST
-    MULTI_REGISTER_VARIABLE, // 0x1005 S_MANYREG_ST
-    UNKNOWN, // 0x1006 S_BPREL32_ST
-    DATA, // 0x1007 S_LDATA32_ST
-    DATA, // 0x1008 S_GDATA32_ST
-    PUBLIC, // 0x1009 S_PUB32_ST
-    PROCEDURE + OPENS, // 0x100a S_LPROC32_ST
-    PROCEDURE + OPENS, // 0x100b S_GPROC32_ST
-    UNKNOWN, // 0x100c S_VFTABLE32
-    UNKNOWN, // 0x100d S_REGREL32_ST
-    THREAD_STORAGE, // 0x100e S_LTHREAD32_ST
-    THREAD_STORAGE, // 0x100f S_GTHREAD32_ST
-    UNKNOWN + OPENS, // 0x1010 S_LPROCMIPS_ST
-    UNKNOWN + OPENS, // 0x1011 S_GPROCMIPS_ST
-    UNKNOWN, // 0x1012 S_FRAMEPROC
-    COMPILE_FLAGS, // 0x1013 S_COMPILE2_ST
-    MULTI_REGISTER_VARIABLE, // 0x1014 S_MANYREG2_ST
-    UNKNOWN + OPENS, // 0x1015 S_LPROCIA64_ST
-    UNKNOWN + OPENS, // 0x1016 S_GPROCIA64_ST
-    UNKNOWN, // 0x1017 S_LOCALSLOT_ST
-    UNKNOWN, // 0x1018 S_PARAMSLOT_ST
-    UNKNOWN, // 0x1019 S_ANNOTATION
-    UNKNOWN + OPENS, // 0x101a S_GMANPROC_ST
-    UNKNOWN + OPENS, // 0x101b S_LMANPROC_ST
-    UNKNOWN, // 0x101c S_RESERVED1
-    UNKNOWN, // 0x101d S_RESERVED2
-    UNKNOWN, // 0x101e S_RESERVED3
-    UNKNOWN, // 0x101f S_RESERVED4
-    DATA, // 0x1020 S_LMANDATA_ST
-    DATA, // 0x1021 S_GMANDATA_ST
-    UNKNOWN, // 0x1022 S_MANFRAMEREL_ST
-    UNKNOWN, // 0x1023 S_MANREGISTER_ST
-    UNKNOWN, // 0x1024 S_MANSLOT_ST
-    UNKNOWN, // 0x1025 S_MANMANYREG_ST
-    UNKNOWN, // 0x1026 S_MANREGREL_ST
-    UNKNOWN, // 0x1027 S_MANMANYREG2_ST
-    UNKNOWN, // 0x1028 S_MANTYPREF
-    USING_NAMESPACE, // 0x1029 S_UNAMESPACE_ST
-    UNKNOWN, // 0x102a
-    UNKNOWN, // 0x102b
-    UNKNOWN, // 0x102c
-    UNKNOWN, // 0x102d
-    UNKNOWN, // 0x102e
-    UNKNOWN, // 0x102f
-    UNKNOWN, // 0x1030
-    UNKNOWN, // 0x1031
-    UNKNOWN, // 0x1032
-    UNKNOWN, // 0x1033
-    UNKNOWN, // 0x1034
-    UNKNOWN, // 0x1035
-    UNKNOWN, // 0x1036
-    UNKNOWN, // 0x1037
-    UNKNOWN, // 0x1038
-    UNKNOWN, // 0x1039
-    UNKNOWN, // 0x103a
-    UNKNOWN, // 0x103b
-    UNKNOWN, // 0x103c
-    UNKNOWN, // 0x103d
-    UNKNOWN, // 0x103e
-    UNKNOWN, // 0x103f
-    UNKNOWN, // 0x1040
-    UNKNOWN, // 0x1041
-    UNKNOWN, // 0x1042
-    UNKNOWN, // 0x1043
-    UNKNOWN, // 0x1044
-    UNKNOWN, // 0x1045
-    UNKNOWN, // 0x1046
-    UNKNOWN, // 0x1047
-    UNKNOWN, // 0x1048
-    UNKNOWN, // 0x1049
-    UNKNOWN, // 0x104a
-    UNKNOWN, // 0x104b
-    UNKNOWN, // 0x104c
-    UNKNOWN, // 0x104d
-    UNKNOWN, // 0x104e
-    UNKNOWN, // 0x104f
-    UNKNOWN, // 0x1050
-    UNKNOWN, // 0x1051
-    UNKNOWN, // 0x1052
-    UNKNOWN, // 0x1053
-    UNKNOWN, // 0x1054
-    UNKNOWN, // 0x1055
-    UNKNOWN, // 0x1056
-    UNKNOWN, // 0x1057
-    UNKNOWN, // 0x1058
-    UNKNOWN, // 0x1059
-    UNKNOWN, // 0x105a
-    UNKNOWN, // 0x105b
-    UNKNOWN, // 0x105c
-    UNKNOWN, // 0x105d
-    UNKNOWN, // 0x105e
-    UNKNOWN, // 0x105f
-    UNKNOWN, // 0x1060
-    UNKNOWN, // 0x1061
-    UNKNOWN, // 0x1062
-    UNKNOWN, // 0x1063
-    UNKNOWN, // 0x1064
-    UNKNOWN, // 0x1065
-    UNKNOWN, // 0x1066
-    UNKNOWN, // 0x1067
-    UNKNOWN, // 0x1068
-    UNKNOWN, // 0x1069
-    UNKNOWN, // 0x106a
-    UNKNOWN, // 0x106b
-    UNKNOWN, // 0x106c
-    UNKNOWN, // 0x106d
-    UNKNOWN, // 0x106e
-    UNKNOWN, // 0x106f
-    UNKNOWN, // 0x1070
-    UNKNOWN, // 0x1071
-    UNKNOWN, // 0x1072
-    UNKNOWN, // 0x1073
-    UNKNOWN, // 0x1074
-    UNKNOWN, // 0x1075
-    UNKNOWN, // 0x1076
-    UNKNOWN, // 0x1077
-    UNKNOWN, // 0x1078
-    UNKNOWN, // 0x1079
-    UNKNOWN, // 0x107a
-    UNKNOWN, // 0x107b
-    UNKNOWN, // 0x107c
-    UNKNOWN, // 0x107d
-    UNKNOWN, // 0x107e
-    UNKNOWN, // 0x107f
-    UNKNOWN, // 0x1080
-    UNKNOWN, // 0x1081
-    UNKNOWN, // 0x1082
-    UNKNOWN, // 0x1083
-    UNKNOWN, // 0x1084
-    UNKNOWN, // 0x1085
-    UNKNOWN, // 0x1086
-    UNKNOWN, // 0x1087
-    UNKNOWN, // 0x1088
-    UNKNOWN, // 0x1089
-    UNKNOWN, // 0x108a
-    UNKNOWN, // 0x108b
-    UNKNOWN, // 0x108c
-    UNKNOWN, // 0x108d
-    UNKNOWN, // 0x108e
-    UNKNOWN, // 0x108f
-    UNKNOWN, // 0x1090
-    UNKNOWN, // 0x1091
-    UNKNOWN, // 0x1092
-    UNKNOWN, // 0x1093
-    UNKNOWN, // 0x1094
-    UNKNOWN, // 0x1095
-    UNKNOWN, // 0x1096
-    UNKNOWN, // 0x1097
-    UNKNOWN, // 0x1098
-    UNKNOWN, // 0x1099
-    UNKNOWN, // 0x109a
-    UNKNOWN, // 0x109b
-    UNKNOWN, // 0x109c
-    UNKNOWN, // 0x109d
-    UNKNOWN, // 0x109e
-    UNKNOWN, // 0x109f
-    UNKNOWN, // 0x10a0
-    UNKNOWN, // 0x10a1
-    UNKNOWN, // 0x10a2
-    UNKNOWN, // 0x10a3
-    UNKNOWN, // 0x10a4
-    UNKNOWN, // 0x10a5
-    UNKNOWN, // 0x10a6
-    UNKNOWN, // 0x10a7
-    UNKNOWN, // 0x10a8
-    UNKNOWN, // 0x10a9
-    UNKNOWN, // 0x10aa
-    UNKNOWN, // 0x10ab
-    UNKNOWN, // 0x10ac
-    UNKNOWN, // 0x10ad
-    UNKNOWN, // 0x10ae
-    UNKNOWN, // 0x10af
-    UNKNOWN, // 0x10b0
-    UNKNOWN, // 0x10b1
-    UNKNOWN, // 0x10b2
-    UNKNOWN, // 0x10b3
-    UNKNOWN, // 0x10b4
-    UNKNOWN, // 0x10b5
-    UNKNOWN, // 0x10b6
-    UNKNOWN, // 0x10b7
-    UNKNOWN, // 0x10b8
-    UNKNOWN, // 0x10b9
-    UNKNOWN, // 0x10ba
-    UNKNOWN, // 0x10bb
-    UNKNOWN, // 0x10bc
-    UNKNOWN, // 0x10bd
-    UNKNOWN, // 0x10be
-    UNKNOWN, // 0x10bf
-    UNKNOWN, // 0x10c0
-    UNKNOWN, // 0x10c1
-    UNKNOWN, // 0x10c2
-    UNKNOWN, // 0x10c3
-    UNKNOWN, // 0x10c4
-    UNKNOWN, // 0x10c5
-    UNKNOWN, // 0x10c6
-    UNKNOWN, // 0x10c7
-    UNKNOWN, // 0x10c8
-    UNKNOWN, // 0x10c9
-    UNKNOWN, // 0x10ca
-    UNKNOWN, // 0x10cb
-    UNKNOWN, // 0x10cc
-    UNKNOWN, // 0x10cd
-    UNKNOWN, // 0x10ce
-    UNKNOWN, // 0x10cf
-    UNKNOWN, // 0x10d0
-    UNKNOWN, // 0x10d1
-    UNKNOWN, // 0x10d2
-    UNKNOWN, // 0x10d3
-    UNKNOWN, // 0x10d4
-    UNKNOWN, // 0x10d5
-    UNKNOWN, // 0x10d6
-    UNKNOWN, // 0x10d7
-    UNKNOWN, // 0x10d8
-    UNKNOWN, // 0x10d9
-    UNKNOWN, // 0x10da
-    UNKNOWN, // 0x10db
-    UNKNOWN, // 0x10dc
-    UNKNOWN, // 0x10dd
-    UNKNOWN, // 0x10de
-    UNKNOWN, // 0x10df
-    UNKNOWN, // 0x10e0
-    UNKNOWN, // 0x10e1
-    UNKNOWN, // 0x10e2
-    UNKNOWN, // 0x10e3
-    UNKNOWN, // 0x10e4
-    UNKNOWN, // 0x10e5
-    UNKNOWN, // 0x10e6
-    UNKNOWN, // 0x10e7
-    UNKNOWN, // 0x10e8
-    UNKNOWN, // 0x10e9
-    UNKNOWN, // 0x10ea
-    UNKNOWN, // 0x10eb
-    UNKNOWN, // 0x10ec
-    UNKNOWN, // 0x10ed
-    UNKNOWN, // 0x10ee
-    UNKNOWN, // 0x10ef
-    UNKNOWN, // 0x10f0
-    UNKNOWN, // 0x10f1
-    UNKNOWN, // 0x10f2
-    UNKNOWN, // 0x10f3
-    UNKNOWN, // 0x10f4
-    UNKNOWN, // 0x10f5
-    UNKNOWN, // 0x10f6
-    UNKNOWN, // 0x10f7
-    UNKNOWN, // 0x10f8
-    UNKNOWN, // 0x10f9
-    UNKNOWN, // 0x10fa
-    UNKNOWN, // 0x10fb
-    UNKNOWN, // 0x10fc
-    UNKNOWN, // 0x10fd
-    UNKNOWN, // 0x10fe
-    UNKNOWN, // 0x10ff
-    UNKNOWN, // 0x1100
-    OBJ_NAME, // 0x1101 S_OBJNAME
-    THUNK + OPENS, // 0x1102 S_THUNK32
-    BLOCK + OPENS, // 0x1103 S_BLOCK32
-    UNKNOWN + OPENS, // 0x1104 S_WITH32
-    LABEL, // 0x1105 S_LABEL32
-    REGISTER_VARIABLE, // 0x1106 S_REGISTER
-    CONSTANT, // 0x1107 S_CONSTANT
-    USER_DEFINED_TYPE, // 0x1108 S_UDT
-    USER_DEFINED_TYPE, // 0x1109 S_COBOLUDT
-    MULTI_REGISTER_VARIABLE, // 0x110a S_MANYREG
-    UNKNOWN, // 0x110b S_BPREL32
-    DATA, // 0x110c S_LDATA32
-    DATA, // 0x110d S_GDATA32
-    PUBLIC, // 0x110e S_PUB32
-    PROCEDURE + OPENS, // 0x110f S_LPROC32
-    PROCEDURE + OPENS, // 0x1110 S_GPROC32
-    REGISTER_RELATIVE, // 0x1111 S_REGREL32
-    THREAD_STORAGE, // 0x1112 S_LTHREAD32
-    THREAD_STORAGE, // 0x1113 S_GTHREAD32
-    UNKNOWN + OPENS, // 0x1114 S_LPROCMIPS
-    UNKNOWN + OPENS, // 0x1115 S_GPROCMIPS
-    COMPILE_FLAGS, // 0x1116 S_COMPILE2
-    MULTI_REGISTER_VARIABLE, // 0x1117 S_MANYREG2
-    UNKNOWN + OPENS, // 0x1118 S_LPROCIA64
-    UNKNOWN + OPENS, // 0x1119 S_GPROCIA64
-    UNKNOWN, // 0x111a S_LOCALSLOT
-    UNKNOWN, // 0x111b S_PARAMSLOT
-    DATA, // 0x111c S_LMANDATA
-    DATA, // 0x111d S_GMANDATA
-    UNKNOWN, // 0x111e S_MANFRAMEREL
-    UNKNOWN, // 0x111f S_MANREGISTER
-    UNKNOWN, // 0x1120 S_MANSLOT
-    UNKNOWN, // 0x1121 S_MANMANYREG
-    UNKNOWN, // 0x1122 S_MANREGREL
-    UNKNOWN, // 0x1123 S_MANMANYREG2
-    USING_NAMESPACE, // 0x1124 S_UNAMESPACE
-    PROCEDURE_REFERENCE, // 0x1125 S_PROCREF
-    DATA_REFERENCE, // 0x1126 S_DATAREF
-    PROCEDURE_REFERENCE, // 0x1127 S_LPROCREF
-    ANNOTATION_REFERENCE, // 0x1128 S_ANNOTATIONREF
-    UNKNOWN, // 0x1129 S_TOKENREF
-    UNKNOWN + OPENS, // 0x112a S_GMANPROC
-    UNKNOWN + OPENS, // 0x112b S_LMANPROC
-    TRAMPOLINE, // 0x112c S_TRAMPOLINE
-    CONSTANT, // 0x112d S_MANCONSTANT
-    UNKNOWN, // 0x112e S_ATTR_FRAMEREL
-    UNKNOWN, // 0x112f S_ATTR_REGISTER
-    UNKNOWN, // 0x1130 S_ATTR_REGREL
-    UNKNOWN, // 0x1131 S_ATTR_MANYREG
-    SEPARATED_CODE + OPENS, // 0x1132 S_SEPCODE
-    UNKNOWN, // 0x1133 S_LOCAL_2005
-    UNKNOWN, // 0x1134 S_DEFRANGE_2005
-    UNKNOWN, // 0x1135 S_DEFRANGE2_2005
-    UNKNOWN, // 0x1136 S_SECTION
-    UNKNOWN, // 0x1137 S_COFFGROUP
-    EXPORT, // 0x1138 S_EXPORT
-    UNKNOWN, // 0x1139 S_CALLSITEINFO
-    UNKNOWN, // 0x113a S_FRAMECOOKIE
-    UNKNOWN, // 0x113b S_DISCARDED
-    COMPILE_FLAGS, // 0x113c S_COMPILE3
-    UNKNOWN, // 0x113d S_ENVBLOCK
-    LOCAL, // 0x113e S_LOCAL
-    UNKNOWN, // 0x113f S_DEFRANGE
-    UNKNOWN, // 0x1140 S_DEFRANGE_SUBFIELD
-    UNKNOWN, // 0x1141 S_DEFRANGE_REGISTER
-    UNKNOWN, // 0x1142 S_DEFRANGE_FRAMEPOINTER_REL
-    UNKNOWN, // 0x1143 S_DEFRANGE_SUBFIELD_REGISTER
-    UNKNOWN, // 0x1144 S_DEFRANGE_FRAMEPOINTER_REL_FULL_SCOPE
-    UNKNOWN, // 0x1145 S_DEFRANGE_REGISTER_REL
-    PROCEDURE, // 0x1146 S_LPROC32_ID
-    PROCEDURE + OPENS, // 0x1147 S_GPROC32_ID
-    UNKNOWN, // 0x1148 S_LPROCMIPS_ID
-    UNKNOWN + OPENS, // 0x1149 S_GPROCMIPS_ID
-    UNKNOWN, // 0x114a S_LPROCIA64_ID
-    UNKNOWN + OPENS, // 0x114b S_GPROCIA64_ID
-    BUILD_INFO, // 0x114c S_BUILDINFO
-    INLINE_SITE + OPENS, // 0x114d S_INLINESITE
-    INLINE_SITE_END + CLOSES, // 0x114e S_INLINESITE_END
-    PROCEDURE_END + CLOSES, // 0x114f S_PROC_ID_END
-    UNKNOWN, // 0x1150 S_DEFRANGE_HLSL
-    UNKNOWN, // 0x1151 S_GDATA_HLSL
-    UNKNOWN, // 0x1152 S_LDATA_HLSL
-    UNKNOWN, // 0x1153 S_FILESTATIC
-    UNKNOWN, // 0x1154 S_LOCAL_DPC_GROUPSHARED
-    PROCEDURE + OPENS, // 0x1155 S_LPROC32_DPC
-    PROCEDURE + OPENS, // 0x1156 S_LPROC32_DPC_ID
-    UNKNOWN, // 0x1157 S_DEFRANGE_DPC_PTR_TAG
-    UNKNOWN, // 0x1158 S_DPC_SYM_TAG_MAP
-    UNKNOWN, // 0x1159 S_ARMSWITCHTABLE
-    UNKNOWN, // 0x115a S_CALLEES
-    UNKNOWN, // 0x115b S_CALLERS
-    UNKNOWN, // 0x115c S_POGODATA
-    INLINE_SITE + OPENS, // 0x115d S_INLINESITE2
-    UNKNOWN, // 0x115e S_HEAPALLOCSITE
-    UNKNOWN, // 0x115f S_MOD_TYPEREF
-];
-
-// The entry of a kind below 0x1000. These are too far apart for a table.
-fn low_code(kind: u16) -> u64
+/// The kinds below 0x1000.
+fn old_entry(kind: u16) -> (Class, Role)
     requires { kind < 0x1000 }
-    ensures { result ≡ code_of kind }
+    ensures { result ≡ (class_of kind, role_of kind) }
 {
     match kind {
-        0x0006 => SCOPE_END + CLOSES, // S_END
-        0x0009 => OBJ_NAME, // S_OBJNAME_ST
-        0x0104 => UNKNOWN + OPENS, // S_LPROC16
-        0x0105 => UNKNOWN + OPENS, // S_GPROC16
-        0x0106 => UNKNOWN + OPENS, // S_THUNK16
-        0x0107 => UNKNOWN + OPENS, // S_BLOCK16
-        0x0108 => UNKNOWN + OPENS, // S_WITH16
-        0x0206 => THUNK + OPENS, // S_THUNK32_ST
-        0x0207 => BLOCK + OPENS, // S_BLOCK32_ST
-        0x0208 => UNKNOWN + OPENS, // S_WITH32_ST
-        0x0209 => LABEL, // S_LABEL32_ST
-        0x0400 => PROCEDURE_REFERENCE, // S_PROCREF_ST
-        0x0401 => DATA_REFERENCE, // S_DATAREF_ST
-        0x0403 => PROCEDURE_REFERENCE, // S_LPROCREF_ST
-        _ => UNKNOWN,
+        0x0006 => (ScopeEnd, Closes), // S_END
+        0x0009 => (ObjName, Neither), // S_OBJNAME_ST
+        0x0104 => (Unknown, Opens), // S_LPROC16
+        0x0105 => (Unknown, Opens), // S_GPROC16
+        0x0106 => (Unknown, Opens), // S_THUNK16
+        0x0107 => (Unknown, Opens), // S_BLOCK16
+        0x0108 => (Unknown, Opens), // S_WITH16
+        0x0206 => (Thunk, Opens), // S_THUNK32_ST
+        0x0207 => (Block, Opens), // S_BLOCK32_ST
+        0x0208 => (Unknown, Opens), // S_WITH32_ST
+        0x0209 => (Label, Neither), // S_LABEL32_ST
+        0x0400 => (ProcedureReference, Neither), // S_PROCREF_ST
+        0x0401 => (DataReference, Neither), // S_DATAREF_ST
+        0x0403 => (ProcedureReference, Neither), // S_LPROCREF_ST
+        _ => (Unknown, Neither),
     }
 }
 
-// The entry of any kind.
-pub fn code_of(kind: u16) -> u64
-    ensures { result ≡ code_of kind }
+/// The kinds from 0x1000 on whose names begin with their length.
+fn st_entry(kind: u16) -> (Class, Role)
+    requires from { 0x1000 ≤ kind }
+    requires below { kind < 0x1100 }
+    ensures { result ≡ (class_of kind, role_of kind) }
 {
-    if kind < 0x1000 {
-        return low_code(kind);
+    match kind {
+        0x1001 => (RegisterVariable, Neither), // S_REGISTER_ST
+        0x1002 => (Constant, Neither), // S_CONSTANT_ST
+        0x1003 => (UserDefinedType, Neither), // S_UDT_ST
+        0x1004 => (UserDefinedType, Neither), // S_COBOLUDT_ST
+        0x1005 => (MultiRegisterVariable, Neither), // S_MANYREG_ST
+        0x1007 => (Data, Neither), // S_LDATA32_ST
+        0x1008 => (Data, Neither), // S_GDATA32_ST
+        0x1009 => (Public, Neither), // S_PUB32_ST
+        0x100a => (Procedure, Opens), // S_LPROC32_ST
+        0x100b => (Procedure, Opens), // S_GPROC32_ST
+        0x100e => (ThreadStorage, Neither), // S_LTHREAD32_ST
+        0x100f => (ThreadStorage, Neither), // S_GTHREAD32_ST
+        0x1010 => (Unknown, Opens), // S_LPROCMIPS_ST
+        0x1011 => (Unknown, Opens), // S_GPROCMIPS_ST
+        0x1013 => (CompileFlags, Neither), // S_COMPILE2_ST
+        0x1014 => (MultiRegisterVariable, Neither), // S_MANYREG2_ST
+        0x1015 => (Unknown, Opens), // S_LPROCIA64_ST
+        0x1016 => (Unknown, Opens), // S_GPROCIA64_ST
+        0x101a => (Unknown, Opens), // S_GMANPROC_ST
+        0x101b => (Unknown, Opens), // S_LMANPROC_ST
+        0x1020 => (Data, Neither), // S_LMANDATA_ST
+        0x1021 => (Data, Neither), // S_GMANDATA_ST
+        0x1029 => (UsingNamespace, Neither), // S_UNAMESPACE_ST
+        _ => (Unknown, Neither),
     }
-    if kind < 0x1160 {
-        let k = kind - 0x1000;
-        return (row(k / 8) >> ((k % 8) as u32 * 8)) % 0x100;
+}
+
+/// The kinds whose names end at a zero. (Longer than other functions, since it is a list.)
+fn new_entry(kind: u16) -> (Class, Role)
+    requires { 0x1100 ≤ kind }
+    ensures { result ≡ (class_of kind, role_of kind) }
+{
+    match kind {
+        0x1101 => (ObjName, Neither), // S_OBJNAME
+        0x1102 => (Thunk, Opens), // S_THUNK32
+        0x1103 => (Block, Opens), // S_BLOCK32
+        0x1104 => (Unknown, Opens), // S_WITH32
+        0x1105 => (Label, Neither), // S_LABEL32
+        0x1106 => (RegisterVariable, Neither), // S_REGISTER
+        0x1107 => (Constant, Neither), // S_CONSTANT
+        0x1108 => (UserDefinedType, Neither), // S_UDT
+        0x1109 => (UserDefinedType, Neither), // S_COBOLUDT
+        0x110a => (MultiRegisterVariable, Neither), // S_MANYREG
+        0x110c => (Data, Neither), // S_LDATA32
+        0x110d => (Data, Neither), // S_GDATA32
+        0x110e => (Public, Neither), // S_PUB32
+        0x110f => (Procedure, Opens), // S_LPROC32
+        0x1110 => (Procedure, Opens), // S_GPROC32
+        0x1111 => (RegisterRelative, Neither), // S_REGREL32
+        0x1112 => (ThreadStorage, Neither), // S_LTHREAD32
+        0x1113 => (ThreadStorage, Neither), // S_GTHREAD32
+        0x1114 => (Unknown, Opens), // S_LPROCMIPS
+        0x1115 => (Unknown, Opens), // S_GPROCMIPS
+        0x1116 => (CompileFlags, Neither), // S_COMPILE2
+        0x1117 => (MultiRegisterVariable, Neither), // S_MANYREG2
+        0x1118 => (Unknown, Opens), // S_LPROCIA64
+        0x1119 => (Unknown, Opens), // S_GPROCIA64
+        0x111c => (Data, Neither), // S_LMANDATA
+        0x111d => (Data, Neither), // S_GMANDATA
+        0x1124 => (UsingNamespace, Neither), // S_UNAMESPACE
+        0x1125 => (ProcedureReference, Neither), // S_PROCREF
+        0x1126 => (DataReference, Neither), // S_DATAREF
+        0x1127 => (ProcedureReference, Neither), // S_LPROCREF
+        0x1128 => (AnnotationReference, Neither), // S_ANNOTATIONREF
+        0x112a => (Unknown, Opens), // S_GMANPROC
+        0x112b => (Unknown, Opens), // S_LMANPROC
+        0x112c => (Trampoline, Neither), // S_TRAMPOLINE
+        0x112d => (Constant, Neither), // S_MANCONSTANT
+        0x1132 => (SeparatedCode, Opens), // S_SEPCODE
+        0x1138 => (Export, Neither), // S_EXPORT
+        0x113c => (CompileFlags, Neither), // S_COMPILE3
+        0x113e => (Local, Neither), // S_LOCAL
+        0x1146 => (Procedure, Neither), // S_LPROC32_ID
+        0x1147 => (Procedure, Opens), // S_GPROC32_ID
+        0x1149 => (Unknown, Opens), // S_GPROCMIPS_ID
+        0x114b => (Unknown, Opens), // S_GPROCIA64_ID
+        0x114c => (BuildInfo, Neither), // S_BUILDINFO
+        0x114d => (InlineSite, Opens), // S_INLINESITE
+        0x114e => (InlineSiteEnd, Closes), // S_INLINESITE_END
+        0x114f => (ProcedureEnd, Closes), // S_PROC_ID_END
+        0x1155 => (Procedure, Opens), // S_LPROC32_DPC
+        0x1156 => (Procedure, Opens), // S_LPROC32_DPC_ID
+        0x115d => (InlineSite, Opens), // S_INLINESITE2
+        _ => (Unknown, Neither),
     }
-    UNKNOWN
+}
+
+/// The class and the role of any kind. (Three lists, since the back end makes a table of a `match` whose numbers lie close together; of
+/// one list it makes a search, and finding the class takes twice as long where kinds can't be foretold.)
+pub fn entry(kind: u16) -> (Class, Role)
+    ensures { result ≡ (class_of kind, role_of kind) }
+{
+    match kind {
+        0x1100.. => new_entry(kind),
+        0x1000.. => st_entry(kind),
+        _ => old_entry(kind),
+    }
 }

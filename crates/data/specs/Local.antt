@@ -7,7 +7,7 @@ use Rattle.records.specs.declared.SymbolData.{SymbolData}
 use Rattle.records.specs.declared.SymbolData.TheVariants.{Local, RegisterRelative}
 
 -- LOCALSYM
-unfoldable pub local : ℕ → Reader SymbolData
+abbrev pub local : ℕ → Reader SymbolData
 local kind = do
   type ← u32
   flags ← u16
@@ -15,7 +15,7 @@ local kind = do
   done (Local (record { type_index = type; flags = local_flags flags; name = name }))
 
 -- REGREL32; its offset is unsigned in cvinfo.h, and pdb reads it signed
-unfoldable pub register_relative : ℕ → Reader SymbolData
+abbrev pub register_relative : ℕ → Reader SymbolData
 register_relative kind = do
   offset ← i32
   type ← u32

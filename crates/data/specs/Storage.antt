@@ -15,7 +15,7 @@ abbrev pub managed_data : ℕ → Bool
 managed_data kind = eqb kind 0x111c || eqb kind 0x1020 || eqb kind 0x111d || eqb kind 0x1021
 
 -- DATASYM32
-unfoldable pub data_item : ℕ → Reader SymbolData
+abbrev pub data_item : ℕ → Reader SymbolData
 data_item kind = do
   type ← u32
   offset ← place
@@ -29,7 +29,7 @@ abbrev pub global_thread : ℕ → Bool
 global_thread kind = eqb kind 0x1113 || eqb kind 0x100f
 
 -- THREADSYM32
-unfoldable pub thread_storage : ℕ → Reader SymbolData
+abbrev pub thread_storage : ℕ → Reader SymbolData
 thread_storage kind = do
   type ← u32
   offset ← place

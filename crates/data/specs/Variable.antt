@@ -7,7 +7,7 @@ use Rattle.records.specs.declared.SymbolData.{SymbolData}
 use Rattle.records.specs.declared.SymbolData.TheVariants.{RegisterVariable, Constant, UserDefinedType}
 
 -- REGSYM
-unfoldable pub register_variable : ℕ → Reader SymbolData
+abbrev pub register_variable : ℕ → Reader SymbolData
 register_variable kind = do
   type ← u32
   register ← u16
@@ -15,7 +15,7 @@ register_variable kind = do
   done (RegisterVariable (record { type_index = type; register = register; name = name }))
 
 -- CONSTSYM; managed only for S_MANCONSTANT (0x112d)
-unfoldable pub constant : ℕ → Reader SymbolData
+abbrev pub constant : ℕ → Reader SymbolData
 constant kind = do
   type ← u32
   value ← numeric
@@ -23,7 +23,7 @@ constant kind = do
   done (Constant (record { managed = eqb kind 0x112d; type_index = type; value = value; name = name }))
 
 -- UDTSYM
-unfoldable pub user_defined_type : ℕ → Reader SymbolData
+abbrev pub user_defined_type : ℕ → Reader SymbolData
 user_defined_type kind = do
   type ← u32
   name ← symbol_name kind

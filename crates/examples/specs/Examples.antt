@@ -1,31 +1,28 @@
 -- The proved examples of document 01, line by line. Each holds by computing the definitions.
-use Rattle.std.specs.Prelude.{ℕ, ◌≡◌, refl, false, List, [], ◌∷◌, negsuc, replicate}
+use Rattle.std.specs.Prelude.{ℕ, ◌≡◌, refl, false, List, [], ◌∷◌, negsuc, replicate, Result, Ok, Err}
 use Rattle.std.proofs.Common.{ap, ◌∙◌, inl, inr, arith}
 use Rattle.std.specs.Borrow.{Bor}
-use Rattle.common.specs.Reader.{value, refused, refusal, ◌>>=◌, uint, sint}
+use Rattle.common.specs.declared.Refusal.{Refusal}
+use Rattle.common.specs.declared.Refusal.TheVariants.{UnexpectedEof, SymbolTooShort, UnexpectedNumericPrefix, NothingThere}
+use Rattle.common.specs.Reader.{number}
 use Rattle.common.specs.Bytes.{le, signed}
 use Rattle.names.specs.declared.Part.{Part}
-use Rattle.names.specs.Name.{symbol_name, pascal, cstring, bytes, run, bytes_of}
+use Rattle.names.specs.Name.{symbol_name, cstring, bytes, run, bytes_of}
 use Rattle.variant.specs.declared.Variant.TheVariants.{I16, U8}
-use Rattle.variant.specs.Numeric.{numeric, by_prefix, leaf, number}
+use Rattle.variant.specs.Numeric.{numeric}
 use Rattle.constants.specs.Kind.{class_of, find, kinds, nesting_role, role_of}
 use Rattle.constants.specs.Raw.{nesting_role_of, raw_kind}
 use Rattle.records.specs.declared.SymbolData.TheVariants.{Constant, UserDefinedType}
-use Rattle.records.specs.Field.{place}
-use Rattle.data.specs.Variable.{constant, user_defined_type}
-use Rattle.code.specs.Block.{block}
-use Rattle.symbol.specs.Decode.{decode, by_kind, layout}
+use Rattle.symbol.specs.Decode.{decode}
 use Rattle.symbol.specs.Name.{name_of}
 use Rattle.symbol.specs.Bytes.{IsName}
 use Rattle.iter.specs.Step.{step_of, scan_of, scan_from, frame_at}
-use Rattle.iter.specs.declared.Next.TheVariants.{End, Refused}
+use Rattle.iter.specs.declared.Next.TheVariants.{End}
 use Rattle.iter.specs.Reading.{read_of, read_from, Begins}
 use Rattle.links.specs.Links.{links_of}
-use Rattle.chain.specs.Finding.{found_by, refused_by}
-use Rattle.chain.specs.declared.finding.Finding.{Finding}
-use Rattle.chain.specs.Chain.{chain_of}
-use Rattle.check_nesting.specs.declared.Checked.TheVariants.{Good}
-use Rattle.check_nesting.specs.Check.{check_of, verdict_from, verdict_on, counts_of, sum, deepest_of}
+use Rattle.chain.specs.Chain.{places}
+use Rattle.chain.specs.declared.Found.{Found}
+use Rattle.check_nesting.specs.Check.{check_of, verdict_from, verdict_on, counts_of, deepest_of}
 use Rattle.check_nesting.specs.Act.{act_of}
 use Rattle.walk.specs.Walk.{walk_of, walk_from, walk_on, turn_of}
 use Rattle.jump.specs.Jump.{jump_of, jump_from, jump_by, jump_body, yielded_at}
@@ -51,51 +48,58 @@ unfolding stream_a step_of scan_of scan_from frame_at read_of read_from le
 steps = tt
 
 decoding : Unit {0}
-unfolding decode by_kind layout constant user_defined_type block place numeric by_prefix leaf number symbol_name pascal cstring bytes run ◌>>=◌ uint sint le signed class_of find kinds
+unfolding decode number symbol_name cstring bytes run le signed class_of find kinds
 decoding = tt
 
 scopes : Unit {0}
-unfolding steps decoding nesting_role_of raw_kind nesting_role role_of links_of chain_of refused_by walk_of walk_from walk_on turn_of jump_of jump_from jump_by jump_body yielded_at hop_of land_of climb_of climb_on opener_of
+unfolding steps decoding nesting_role_of raw_kind nesting_role role_of links_of walk_of walk_from walk_on turn_of jump_of jump_from jump_by jump_body yielded_at hop_of land_of climb_of climb_on opener_of
 scopes = tt
 
--- an answer of a finder: the 64 places of its chain, how many scopes they list, and the count
-abbrev found : List ℕ → ℕ → ℕ → Finding
-found at depth count = found_by (record { at = at; depth = depth }) count
+-- an answer of a finder: the scopes that its chain lists, and the count
+abbrev found : List ℕ → ℕ → Result Found Refusal
+found chain count = Ok (record { chain = chain; count = count })
+
+-- the places of the chains below
+places_2 : places (4 ∷ 28 ∷ []) ≡ 4 ∷ 28 ∷ replicate 62 0
+places_2 = refl
+
+places_1 : places (4 ∷ []) ≡ 4 ∷ replicate 63 0
+places_1 = refl
 
 -- P1 A passes: 5 and 1 records, 64 and 4 bytes, 2 openers, depth 2.
-p1 : check_of stream_a 4 ≡ Good (record { records = 5; bytes = 64; fillers = 1; filler_bytes = 4; openers = 2; deepest = 2 })
-unfolding scopes check_of verdict_from verdict_on act_of counts_of sum deepest_of
+p1 : check_of stream_a 4 ≡ Ok (record { records = 5; bytes = 64; fillers = 1; filler_bytes = 4; openers = 2; deepest = 2 })
+unfolding scopes check_of verdict_from verdict_on act_of counts_of deepest_of
 p1 = refl
 
 -- P2 i = 52: chain 4, 28; 3 read both ways.
-p2_walk : walk_of stream_a 4 52 ≡ found (4 ∷ 28 ∷ replicate 62 0) 2 3
+p2_walk : walk_of stream_a 4 52 ≡ found (4 ∷ 28 ∷ []) 3
 unfolding scopes
 p2_walk = refl
 
-p2_jump : jump_of stream_a 4 52 ≡ found (4 ∷ 28 ∷ replicate 62 0) 2 3
+p2_jump : jump_of stream_a 4 52 ≡ found (4 ∷ 28 ∷ []) 3
 unfolding scopes
 p2_jump = refl
 
 -- P3 i = 68: chain 4; walk 5 read, jump 4.
-p3_walk : walk_of stream_a 4 68 ≡ found (4 ∷ replicate 63 0) 1 5
+p3_walk : walk_of stream_a 4 68 ≡ found (4 ∷ []) 5
 unfolding scopes
 p3_walk = refl
 
-p3_jump : jump_of stream_a 4 68 ≡ found (4 ∷ replicate 63 0) 1 4
+p3_jump : jump_of stream_a 4 68 ≡ found (4 ∷ []) 4
 unfolding scopes
 p3_jump = refl
 
 -- P4 i = 64: 14 both ways.
-p4_walk : walk_of stream_a 4 64 ≡ refused_by (refusal 14 0 0)
+p4_walk : walk_of stream_a 4 64 ≡ Err NothingThere
 unfolding scopes
 p4_walk = refl
 
-p4_jump : jump_of stream_a 4 64 ≡ refused_by (refusal 14 0 0)
+p4_jump : jump_of stream_a 4 64 ≡ Err NothingThere
 unfolding scopes
 p4_jump = refl
 
 -- P5 climb from 28: 4; one link.
-p5 : climb_of stream_a 28 ≡ found (4 ∷ replicate 63 0) 1 1
+p5 : climb_of stream_a 28 ≡ found (4 ∷ []) 1
 unfolding scopes
 p5 = refl
 
@@ -122,22 +126,22 @@ unfolding scopes
 c3_28 = inr (inl (refl, refl))
 
 -- P6 empty stream: End at 0.
-p6 : step_of [] 0 ≡ End 0
+p6 : step_of [] 0 ≡ Ok (End 0)
 unfolding steps
 p6 = refl
 
 -- P7 `01 00`: 2 at 2.
-p7 : step_of (0x01 ∷ 0x00 ∷ []) 0 ≡ Refused (refusal 2 2 0)
+p7 : step_of (0x01 ∷ 0x00 ∷ []) 0 ≡ Err (SymbolTooShort 2)
 unfolding steps
 p7 = refl
 
 -- P8 `02 00 06`: 1 at 2.
-p8 : step_of (0x02 ∷ 0x00 ∷ 0x06 ∷ []) 0 ≡ Refused (refusal 1 2 0)
+p8 : step_of (0x02 ∷ 0x00 ∷ 0x06 ∷ []) 0 ≡ Err (UnexpectedEof 2)
 unfolding steps
 p8 = refl
 
 -- P9 `02 00 07 00` from 9: End at 4.
-p9 : step_of (0x02 ∷ 0x00 ∷ 0x07 ∷ 0x00 ∷ []) 9 ≡ End 4
+p9 : step_of (0x02 ∷ 0x00 ∷ 0x07 ∷ 0x00 ∷ []) 9 ≡ Ok (End 4)
 unfolding steps
 p9 = refl
 
@@ -153,7 +157,7 @@ Names bytes name = (lent given : Bor (List ℕ)) → lent.now ≡ bytes → IsNa
 abbrev record10 : List ℕ
 record10 = 0x07 ∷ 0x11 ∷ 0x00 ∷ 0x10 ∷ 0x00 ∷ 0x00 ∷ 0x01 ∷ 0x80 ∷ 0xFF ∷ 0xFF ∷ 0x6B ∷ 0x00 ∷ []
 
-p10 : decode record10 ≡ value (Constant (record { managed = false; type_index = 0x1000; value = I16 (negsuc 0); name = part 10 1 })) 12
+p10 : decode record10 ≡ Ok (Constant (record { managed = false; type_index = 0x1000; value = I16 (negsuc 0); name = part 10 1 }), 12)
 unfolding decoding
 p10 = refl
 
@@ -162,7 +166,7 @@ unfolding decoding name_of bytes_of
 p10-name lent given e is = is.bytes ∙ ap (λ (s : List ℕ). bytes_of s (part 10 1)) e
 
 -- With `00 80 FF`: u8 255.
-p10' : decode (0x07 ∷ 0x11 ∷ 0x00 ∷ 0x10 ∷ 0x00 ∷ 0x00 ∷ 0x00 ∷ 0x80 ∷ 0xFF ∷ 0x6B ∷ 0x00 ∷ []) ≡ value (Constant (record { managed = false; type_index = 0x1000; value = U8 255; name = part 9 1 })) 11
+p10' : decode (0x07 ∷ 0x11 ∷ 0x00 ∷ 0x10 ∷ 0x00 ∷ 0x00 ∷ 0x00 ∷ 0x80 ∷ 0xFF ∷ 0x6B ∷ 0x00 ∷ []) ≡ Ok (Constant (record { managed = false; type_index = 0x1000; value = U8 255; name = part 9 1 }), 11)
 unfolding decoding
 p10' = refl
 
@@ -170,7 +174,7 @@ p10' = refl
 abbrev record11 : List ℕ
 record11 = 0x03 ∷ 0x10 ∷ 0x74 ∷ 0x00 ∷ 0x00 ∷ 0x00 ∷ 0x02 ∷ 0x61 ∷ 0x62 ∷ []
 
-p11 : decode record11 ≡ value (UserDefinedType (record { type_index = 0x74; name = part 7 2 })) 9
+p11 : decode record11 ≡ Ok (UserDefinedType (record { type_index = 0x74; name = part 7 2 }), 9)
 unfolding decoding
 p11 = refl
 
@@ -179,10 +183,10 @@ unfolding decoding name_of bytes_of
 p11-name lent given e is = is.bytes ∙ ap (λ (s : List ℕ). bytes_of s (part 7 2)) e
 
 -- P12 prefix `05 80`: 4. So of the numeric value, and of a constant that has it.
-p12 : numeric (0x05 ∷ 0x80 ∷ []) 0 ≡ refused (refusal 4 0 0x8005)
+p12 : numeric (0x05 ∷ 0x80 ∷ []) 0 ≡ Err (UnexpectedNumericPrefix 0x8005)
 unfolding decoding
 p12 = refl
 
-p12-decode : decode (0x07 ∷ 0x11 ∷ 0x00 ∷ 0x10 ∷ 0x00 ∷ 0x00 ∷ 0x05 ∷ 0x80 ∷ 0xFF ∷ 0xFF ∷ 0x6B ∷ 0x00 ∷ []) ≡ refused (refusal 4 0 0x8005)
+p12-decode : decode (0x07 ∷ 0x11 ∷ 0x00 ∷ 0x10 ∷ 0x00 ∷ 0x00 ∷ 0x05 ∷ 0x80 ∷ 0xFF ∷ 0xFF ∷ 0x6B ∷ 0x00 ∷ []) ≡ Err (UnexpectedNumericPrefix 0x8005)
 unfolding decoding
 p12-decode = refl

@@ -1,4 +1,4 @@
 pub mod Laws
 pub mod Reading
 pub mod Records
-pub mod Numbers
+pub mod Steps

@@ -1,10 +1,11 @@
 -- The records that steps yield, each step made from the next position of the one before.
-use Rattle.std.specs.Prelude.{ℕ, zero, suc, ◌≡◌, ◌⊎◌, Bool, false, ◌||◌, List, [], ◌∷◌, length, take, drop, eqb}
+use Rattle.std.specs.Prelude.{ℕ, zero, suc, ◌≡◌, ◌⊎◌, Bool, List, [], ◌∷◌, length, take, drop, eqb, Result, Ok, Err}
+use Rattle.std.specs.List.{list_any}
 use Rattle.common.specs.declared.Refusal.{Refusal}
 use Rattle.iter.specs.Step.{scan_of}
 use Rattle.iter.specs.declared.Scan.{Scan}
 use Rattle.iter.specs.declared.Next.{Next}
-use Rattle.iter.specs.declared.Next.TheVariants.{End, Refused, Record}
+use Rattle.iter.specs.declared.Next.TheVariants.{End, Record}
 
 -- a yielded record: the position of its length field, its bytes, and the fillers that its step passed over, with their bytes
 pub record Rec : Type 0 where
@@ -38,10 +39,10 @@ ended fillers fillerBytes e = record { recs = []; last = record { fillers = fill
 abbrev pub more : Rec → Reading → Reading
 more r rest = record { recs = r ∷ rest.recs; last = rest.last }
 
-abbrev pub on_next : List ℕ → Scan → Next → (ℕ → Reading) → Reading
-on_next s c (End p) on = ended c.fillers c.filler_bytes ends
-on_next s c (Refused e) on = ended c.fillers c.filler_bytes (refuses e)
-on_next s c (Record kind index start len next) on = more (rec_at s c index start len) (on next)
+abbrev pub on_next : List ℕ → Scan → Result Next Refusal → (ℕ → Reading) → Reading
+on_next s c (Ok (End p)) on = ended c.fillers c.filler_bytes ends
+on_next s c (Ok (Record kind index start len next)) on = more (rec_at s c index start len) (on next)
+on_next s c (Err e) on = ended c.fillers c.filler_bytes (refuses e)
 
 -- The reading from a position, where at most k steps follow. (Where k runs out it ends; that `read_of` never does so early is the law
 -- `read_by` of proofs/Reading.antt: the reading is what its first step says, and the reading from the next position.)
@@ -64,10 +65,5 @@ abbrev pub Begins : List ℕ → ℕ → ℕ → Type 0
 Begins s start i = Some (λ r. r.index ≡ i) (read_of s start).recs
 
 -- whether it does; that the two say the same are the laws `begins` and `begins_at_lem` of proofs/Records.antt
-unfoldable pub has_index : ℕ → List Rec → Bool
-has_index i [] = false
-has_index i (r ∷ rs) = eqb r.index i || has_index i rs
-
 unfoldable pub begins_at : List ℕ → ℕ → ℕ → Bool
-unfolding has_index
-begins_at s start i = has_index i (read_of s start).recs
+begins_at s start i = list_any (λ r. eqb r.index i) (read_of s start).recs

@@ -1,4 +1,3 @@
 pub mod Fuel
 pub mod Jumps
 pub mod Hops
-pub mod Numbers

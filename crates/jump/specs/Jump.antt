@@ -1,46 +1,45 @@
 -- The jump finder (document 01, "Jump finder"): as walking, except for closers and for openers whose scope ends before i.
-use Rattle.std.specs.Prelude.{ℕ, zero, suc, List, [], ◌∷◌, length, take, drop}
-use Rattle.common.specs.Reader.{refusal}
+use Rattle.std.specs.Prelude.{ℕ, zero, suc, List, [], ◌∷◌, length, take, drop, Result, Ok, Err}
+use Rattle.common.specs.declared.Refusal.{Refusal}
+use Rattle.common.specs.declared.Refusal.TheVariants.{NothingThere}
 use Rattle.iter.specs.Step.{scan_of}
 use Rattle.iter.specs.Reading.{Rec, rec_at}
 use Rattle.iter.specs.declared.Scan.{Scan}
 use Rattle.iter.specs.declared.Next.{Next}
-use Rattle.iter.specs.declared.Next.TheVariants as N
+use Rattle.iter.specs.declared.Next.TheVariants.{End, Record}
 use Rattle.chain.specs.Finding.{Walk, seen, found_at, refused_with, finding_of}
-use Rattle.chain.specs.declared.finding.Finding.{Finding}
+use Rattle.chain.specs.declared.Found.{Found}
 use Rattle.jump.specs.declared.hop.Hop.{Hop}
 use Rattle.jump.specs.declared.hop.Hop.TheVariants as H
-use Rattle.jump.specs.declared.hop.Land.{Land}
-use Rattle.jump.specs.declared.hop.Land.TheVariants as L
 use Rattle.jump.specs.Hop.{hop_of, land_of}
 
 -- the record that a step from a position yields (asked only where it yields one)
-abbrev pub yielded : List ℕ → Scan → Next → Rec
-yielded s c (N.End p) = rec_at s c 0 0 0
-yielded s c (N.Refused e) = rec_at s c 0 0 0
-yielded s c (N.Record kind index start len next) = rec_at s c index start len
+abbrev pub yielded : List ℕ → Scan → Result Next Refusal → Rec
+yielded s c (Err e) = rec_at s c 0 0 0
+yielded s c (Ok (End p)) = rec_at s c 0 0 0
+yielded s c (Ok (Record kind index start len next)) = rec_at s c index start len
 
 unfoldable pub yielded_at : List ℕ → ℕ → Rec
 yielded_at s at = yielded s (scan_of s at) (scan_of s at).step
 
 -- The walk from a record, where `on` is the walk from a later position, with a stack. The closer jumped to is visited and pops nothing,
 -- and reading goes on after it.
-abbrev pub on_land : Rec → List ℕ → Land → (ℕ → List ℕ → Walk) → Walk
-on_land closer st (L.After after) on = seen closer (on after st)
-on_land closer st (L.Refused e) on = refused_with e
+abbrev pub on_land : Rec → List ℕ → Result ℕ Refusal → (ℕ → List ℕ → Walk) → Walk
+on_land closer st (Ok after) on = seen closer (on after st)
+on_land closer st (Err e) on = refused_with e
 
-abbrev pub on_hop : List ℕ → Rec → ℕ → List ℕ → Hop → (ℕ → List ℕ → Walk) → Walk
-on_hop s r next st H.Stay on = seen r (on next st)
-on_hop s r next st H.Push on = seen r (on next (r.index ∷ st))
-on_hop s r next st (H.Over end) on = seen r (on_land (yielded_at s end) st (land_of s end) on)
-on_hop s r next st H.Found on = found_at r st
-on_hop s r next st (H.Refused e) on = seen r (refused_with e)
+abbrev pub on_hop : List ℕ → Rec → ℕ → List ℕ → Result Hop Refusal → (ℕ → List ℕ → Walk) → Walk
+on_hop s r next st (Ok H.Stay) on = seen r (on next st)
+on_hop s r next st (Ok H.Push) on = seen r (on next (r.index ∷ st))
+on_hop s r next st (Ok (H.Over end)) on = seen r (on_land (yielded_at s end) st (land_of s end) on)
+on_hop s r next st (Ok H.Found) on = found_at r st
+on_hop s r next st (Err e) on = seen r (refused_with e)
 
 -- Step's refusals; End is 14.
-abbrev pub on_step : List ℕ → ℕ → Scan → Next → (ℕ → List ℕ → Walk) → List ℕ → Walk
-on_step s i c (N.End p) on st = refused_with (refusal 14 0 0)
-on_step s i c (N.Refused e) on st = refused_with e
-on_step s i c (N.Record kind index start len next) on st =
+abbrev pub on_step : List ℕ → ℕ → Scan → Result Next Refusal → (ℕ → List ℕ → Walk) → List ℕ → Walk
+on_step s i c (Err e) on st = refused_with e
+on_step s i c (Ok (End p)) on st = refused_with NothingThere
+on_step s i c (Ok (Record kind index start len next)) on st =
     on_hop s (rec_at s c index start len) next st (hop_of i index next (take len (drop start s)) (length st)) on
 
 unfoldable pub jump_body : List ℕ → ℕ → (ℕ → List ℕ → Walk) → ℕ → List ℕ → Walk
@@ -49,7 +48,7 @@ jump_body s i on at st = on_step s i (scan_of s at) (scan_of s at).step on st
 -- The walk from a position with a stack, where at most k steps and jumps follow.
 unfoldable pub jump_by : ℕ → List ℕ → ℕ → ℕ → List ℕ → Walk
 unfolding jump_body
-jump_by zero s i at st = refused_with (refusal 14 0 0)
+jump_by zero s i at st = refused_with NothingThere
 jump_by (suc k) s i at st = jump_body s i (λ q st'. jump_by k s i q st') at st
 
 -- Each goes to a later position, so that no more follow than there are bytes.
@@ -57,6 +56,6 @@ unfoldable pub jump_from : List ℕ → ℕ → ℕ → List ℕ → Walk
 unfolding jump_by
 jump_from s i at st = jump_by (suc (length s)) s i at st
 
-unfoldable pub jump_of : List ℕ → ℕ → ℕ → Finding
+unfoldable pub jump_of : List ℕ → ℕ → ℕ → Result Found Refusal
 unfolding jump_from
 jump_of s start i = finding_of (jump_from s i start [])

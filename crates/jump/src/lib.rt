@@ -8,48 +8,39 @@ pub mod hop;
 ghost use Rattle.std.specs.Prelude.{◌≡◌};
 ghost use Rattle.jump.specs.Jump.{jump_of};
 
-use chain::Chain;
-use chain::finding::Finding;
+use chain::{Chain, Found};
 use common::Refusal;
-use hop::{Hop, Land};
+use hop::Hop;
 use iter::Next;
 
-// The scopes that enclose the record at i, by steps and jumps from start.
-pub fn jump(s: &[u8], start: usize, i: usize) -> Finding
+/// The scopes that enclose the record at i, by steps and jumps from a start.
+#[tactic(auto, using(iter::proofs::Steps::start_le_next, iter::proofs::Steps::next_within, iter::proofs::Steps::less_left, iter::proofs::Steps::index_fits, iter::proofs::Steps::lent_kind, crate::proofs::Hops::push_room))]
+pub fn jump(s: &[u8], start: usize, i: usize) -> Result<Found, Refusal>
     ensures { result ≡ jump_of s.now start i }
 {
     let mut chain = Chain::new();
     let mut at = start;
     let mut read: usize = 0;
     loop {
-        match iter::step(s, at) {
-            Next::End(_) => return chain::finding::refused(Refusal::at(Refusal::NOTHING_THERE, 0)),
-            Next::Refused(e) => return chain::finding::refused(e),
+        match iter::step(s, at)? {
+            Next::End(_) => return Err(Refusal::NothingThere),
             Next::Record {
                 kind,
                 index,
                 start: from,
-                len: _,
                 next,
+                ..
             } => {
                 at = next;
-                read = read + 1;
-                let depth = chain.depth;
-                match hop::hop_at(kind, &s[from..next], index, next, i, depth) {
+                read += 1;
+                match hop::hop_at(kind, &s[from..next], index, next, i, chain.len())? {
                     Hop::Stay => {}
-                    Hop::Push => {
-                        chain.at[depth] = index as u32;
-                        chain.depth = depth + 1;
+                    Hop::Push => chain.push(index as u32),
+                    Hop::Over(end) => {
+                        at = hop::land_at(s, end)?;
+                        read += 1;
                     }
-                    Hop::Over(end) => match hop::land_at(s, end) {
-                        Land::After(after) => {
-                            at = after;
-                            read = read + 1;
-                        }
-                        Land::Refused(e) => return chain::finding::refused(e),
-                    },
-                    Hop::Found => return chain::finding::found(chain, read),
-                    Hop::Refused(e) => return chain::finding::refused(e),
+                    Hop::Found => return Ok(Found { chain, count: read }),
                 }
             }
         }

@@ -6,29 +6,27 @@ ghost use Rattle.constants.specs.declared.Role.TheVariants.{Opens};
 ghost use Rattle.constants.specs.Raw.{nesting_role_of};
 ghost use Rattle.links.specs.Links.{links_of};
 
-use symbol::name::Named;
+use common::number::Number;
 
-// The links of an opener.
-#[derive(Clone, Copy)]
-pub enum Links {
-    // Decode refuses the record.
-    Unread,
+/// The links of an opener.
+#[derive(Clone, Copy, Debug, PartialEq, Eq)]
+pub struct Links {
+    /// The position of the scope that encloses it, 0 where none does.
+    pub parent: u32,
 
-    // Its parent and end fields.
-    Read { parent: u32, end: u32 },
+    /// The position of the record that closes its scope.
+    pub end: u32,
 }
 
-// Both fields stand behind the kind in every layout that opens a scope, and name has decode's refusals: no typed record is built.
-pub fn links_of(rec: &[u8]) -> Links
+/// The links of an opener; none where decode refuses it. Both fields stand behind the kind in every layout that opens a scope, and name
+/// has decode's refusals: no typed record is built.
+pub fn links_of(rec: &[u8]) -> Option<Links>
     requires { nesting_role_of rec.now ≡ Opens }
     ensures { result ≡ links_of rec.now }
 {
-    match symbol::name::name(rec) {
-        Named::Refused(_) => Links::Unread,
-        Named::Answer(_) => {
-            let parent = common::u32_at(rec, 2);
-            let end = common::u32_at(rec, 6);
-            Links::Read { parent, end }
-        }
-    }
+    symbol::name::name(rec).ok()?;
+    Some(Links {
+        parent: u32::at(rec, 2),
+        end: u32::at(rec, 6),
+    })
 }

@@ -3,13 +3,13 @@
 
 use std::io::{self, Read, Write};
 
-// Lists the case that the input goes on with, and answers whether there was one.
+/// Lists the case that the input goes on with, and answers whether there was one.
 fn list_case<R: Read>(rt: &HostRuntime, reader: &mut R, number: u64) -> io::Result<bool> {
     let mut length = [0u8; 4];
     if input::read_full(reader, &mut length)? < 4 {
         return Ok(false);
     }
-    let len = common::u32_at(&length, 0) as usize;
+    let len = u32::from_le_bytes(length) as usize;
     let mut stream = listing::stream_room();
     if stream.len() < len {
         return Ok(false);

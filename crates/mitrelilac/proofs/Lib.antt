@@ -1,2 +1,1 @@
-mod Replies
 pub mod Exported

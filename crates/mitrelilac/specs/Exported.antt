@@ -1,11 +1,10 @@
 -- What document 01 says of what the calls return, said of what C receives: the numbers that the exported functions return, and the words
 -- of `out` as they are afterwards.
--- words of `out` afterwards.
-use Rattle.std.specs.Prelude.{ℕ, ◌+◌, ◌-◌, ◌≤◌, ◌≡◌, List, [], ◌∷◌, length, take, drop, get_or}
+use Rattle.std.specs.Prelude.{ℕ, ◌+◌, ◌-◌, ◌≤◌, ◌≡◌, List, [], ◌∷◌, length, take, drop, reverse, get_or}
 use Rattle.iter.specs.Step.{within}
 use Rattle.iter.specs.Reading.{Begins}
-use Rattle.chain.specs.declared.Chain.{Chain}
-use Rattle.agreement.specs.Agreement.{OpenerBegins, enclosing, reversed}
+use Rattle.agreement.specs.Agreement.{OpenerBegins, enclosing}
+use Rattle.reply.specs.Replies.{chain_words}
 
 -- what a call returned, and the words that were lent to it, as they are afterwards
 pub record Call : Type 0 where
@@ -19,19 +18,17 @@ call returned out = record { returned = returned; out = out }
 abbrev pub SumsUp : List ℕ → ℕ → Call → Type 0
 SumsUp s start check = check.returned ≡ 0 → get_or check.out 1 0 + get_or check.out 3 0 ≡ length s - within s start
 
--- The words of a finder's answer: out[0] is its count, and from out[1] on, 65 words, stand how many scopes there are and the 64 places.
+-- The words of a finder's answer: out[0] is its count, and from out[1] on, 65 words, stand how many scopes there are and the 64 places
+-- (`chain_words`).
 abbrev pub count : Call → ℕ
 count c = get_or c.out 0 0
 
 abbrev pub scopes : Call → List ℕ
 scopes c = take 65 (drop 1 c.out)
 
-abbrev pub chain_words : Chain → List ℕ
-chain_words chain = chain.depth ∷ chain.at
-
 -- Jumping and walking both answer, with the same enclosing scopes in the same order, and jumping returns no greater number of records
 -- read than walking.
-pub record BothAnswer (enclosed : Chain) (walk jump : Call) : Type 0 where
+pub record BothAnswer (enclosed : List ℕ) (walk jump : Call) : Type 0 where
   pub walking_answers : walk.returned ≡ 0
   pub jumping_answers : jump.returned ≡ 0
   pub walking_finds : scopes walk ≡ chain_words enclosed
@@ -46,10 +43,10 @@ pub record BothRefuse (walk jump : Call) : Type 0 where
   pub jumping_at_0 : take 2 jump.out ≡ 0 ∷ 0 ∷ []
 
 -- The parent fields, climbed, give that list reversed, without a refusal and with as many links as the list has scopes.
-pub record ClimbsThem (enclosed : Chain) (climb : Call) : Type 0 where
+pub record ClimbsThem (enclosed : List ℕ) (climb : Call) : Type 0 where
   pub climbing_answers : climb.returned ≡ 0
-  pub climbing_finds : scopes climb ≡ chain_words (reversed enclosed)
-  pub as_many_links : count climb ≡ enclosed.depth
+  pub climbing_finds : scopes climb ≡ chain_words (reverse enclosed)
+  pub as_many_links : count climb ≡ length enclosed
 
 -- Condition 3: where the check returned 0, the three finders agree. (What it is that a record or an opener begins, and what the enclosing
 -- scopes are, stands in crate agreement.)

@@ -8,23 +8,23 @@ ghost use Rattle.reply.specs.Reply.{Replied};
 ghost use Rattle.reply.specs.Replies.{check_reply, finding_reply};
 ghost use Rattle.mitrelilac.specs.Exported.{call, Condition3};
 
-// The numbers that the four calls return.
-#[derive(Clone, Copy)]
+/// The numbers that the four calls return.
+#[derive(Clone, Copy, Debug, PartialEq, Eq)]
 pub struct Returned {
-    // By mitrelilac_check.
+    /// By mitrelilac_check.
     pub check: u32,
 
-    // By mitrelilac_walk.
+    /// By mitrelilac_walk.
     pub walk: u32,
 
-    // By mitrelilac_jump.
+    /// By mitrelilac_jump.
     pub jump: u32,
 
-    // By mitrelilac_climb.
+    /// By mitrelilac_climb.
     pub climb: u32,
 }
 
-// Asks the check of a stream from a start, and the three finders of a position in it.
+/// Asks the check of a stream from a start, and the three finders of a position in it.
 pub fn four_calls(
     stream: &[u8],
     start: usize,

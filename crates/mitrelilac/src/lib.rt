@@ -21,88 +21,78 @@ ghost use Rattle.reply.specs.Reply.{Replied};
 ghost use Rattle.reply.specs.Replies.{step_reply, kind_reply, decode_reply, name_reply, entry_reply, check_reply, finding_reply};
 ghost use Rattle.mitrelilac.specs.Exported.{call, SumsUp};
 
-use records::Decoded;
-
-// One step from a position. End: 0, position. A record: 1, index, where its bytes start, how many they are, next position.
+/// One step from a position. End: 0, position. A record: 1, index, where its bytes start, how many they are, next position.
 pub fn mitrelilac_step(stream: &[u8], position: usize, out: &mut [u64; 5]) -> u32
     ensures { Replied (step_reply (step_of stream.now position)) result out.old out.new }
 {
-    reply::operation::reply_step(iter::step(stream, position), out)
+    reply::reply_step(iter::step(stream, position), out)
 }
 
-// The kind of a record, 1 if it opens a scope, 1 if it closes one. Never refuses.
+/// The kind of a record, 1 if it opens a scope, 1 if it closes one. Never refuses.
 pub fn mitrelilac_kind(rec: &[u8], out: &mut [u64; 3]) -> u32
     ensures { Replied (kind_reply (raw_kind rec.now)) result out.old out.new }
 {
     let kind = constants::kind::raw_kind(rec);
-    let opener = words::truth(constants::kind::starts_scope(rec));
-    let closer = words::truth(constants::kind::ends_scope(rec));
-    words::put::put3(out, kind as u64, opener, closer);
-    0
+    let opener = constants::kind::starts_scope(rec);
+    let closer = constants::kind::ends_scope(rec);
+    reply::answer(out, [kind as u64, opener as u64, closer as u64])
 }
 
-// A record decoded: the number of its class, the bytes consumed, and its fields.
+/// A record decoded: the number of its class, the bytes consumed, and its fields.
 pub fn mitrelilac_decode(rec: &[u8], out: &mut [u64; 24]) -> u32
     ensures { Replied (decode_reply (decode rec.now)) result out.old out.new }
 {
-    match symbol::decode(rec) {
-        Decoded::Record(d, consumed) => {
-            record_words::write_record(d, consumed, out);
-            return 0;
+    let decoded = symbol::decode(rec);
+    match &decoded {
+        Ok((d, consumed)) => {
+            record_words::write_record(d, *consumed, out);
+            0
         }
-        Decoded::Refused(e) => return reply::refuse(out, e),
+        Err(e) => reply::refuse(out, *e),
     }
 }
 
-// The name of a record: 1, where it starts, how long it is; 0, 0, 0 where there is none.
+/// The name of a record: 1, where it starts, how long it is; 0, 0, 0 where there is none.
 pub fn mitrelilac_name(rec: &[u8], out: &mut [u64; 3]) -> u32
     ensures { Replied (name_reply (name_of rec.now)) result out.old out.new }
 {
-    reply::operation::reply_name(symbol::name::name(rec), out)
+    reply::reply_name(symbol::name::name(rec), out)
 }
 
-// The entry k of a register list, from 0 on: the register, where its name starts, how long it is.
+/// The entry k of a register list, from 0 on: the register, where its name starts, how long it is.
 pub fn mitrelilac_register_entry(rec: &[u8], k: usize, out: &mut [u64; 3]) -> u32
     ensures { Replied (entry_reply (register_entry rec.now k)) result out.old out.new }
 {
-    reply::operation::reply_entry(symbol::register_entry::register_entry(rec, k), out)
+    reply::reply_entry(symbol::register_entry::register_entry(rec, k), out)
 }
 
-// The nesting check from a start: records read and their bytes, fillers passed over and theirs, openers, deepest nesting.
+/// The nesting check from a start: records read and their bytes, fillers passed over and theirs, openers, deepest nesting.
+#[tactic(auto, using(crate::proofs::Exported::sums_up))]
 pub fn mitrelilac_check(stream: &[u8], start: usize, out: &mut [u64; 6]) -> u32
     ensures replied { Replied (check_reply (check_of stream.now start)) result out.old out.new }
     ensures sums_up { SumsUp stream.now start (call result out.new) }
 {
-    reply::operation::reply_check(check_nesting::check(stream, start), out)
+    reply::reply_check(check_nesting::check(stream, start), out)
 }
 
-// The scopes that enclose the record at i, by steps from a start: the number of records read, how many scopes there are, and 64 places
-// that list them, the outermost first, 0 behind them.
+/// The scopes that enclose the record at i, by steps from a start: the number of records read, how many scopes there are, and 64 places
+/// that list them, the outermost first, 0 behind them.
 pub fn mitrelilac_walk(stream: &[u8], start: usize, i: usize, out: &mut [u64; 66]) -> u32
     ensures { Replied (finding_reply (walk_of stream.now start i)) result out.old out.new }
 {
-    let walked = walk::walk(stream, start, i);
-    let found = walked.out;
-    let chain = walked.chain;
-    reply::reply_chain(found, walked.count, chain, out)
+    reply::reply_chain(walk::walk(stream, start, i), out)
 }
 
-// As walking, but scopes that close before i are jumped over.
+/// As walking, but scopes that close before i are jumped over.
 pub fn mitrelilac_jump(stream: &[u8], start: usize, i: usize, out: &mut [u64; 66]) -> u32
     ensures { Replied (finding_reply (jump_of stream.now start i)) result out.old out.new }
 {
-    let jumped = jump::jump(stream, start, i);
-    let found = jumped.out;
-    let chain = jumped.chain;
-    reply::reply_chain(found, jumped.count, chain, out)
+    reply::reply_chain(jump::jump(stream, start, i), out)
 }
 
-// The scopes that enclose the opener at i, by parent fields: the number of links, then as walking, but the innermost first.
+/// The scopes that enclose the opener at i, by parent fields: the number of links, then as walking, but the innermost first.
 pub fn mitrelilac_climb(stream: &[u8], i: usize, out: &mut [u64; 66]) -> u32
     ensures { Replied (finding_reply (climb_of stream.now i)) result out.old out.new }
 {
-    let climbed = climb::climb(stream, i);
-    let found = climbed.out;
-    let chain = climbed.chain;
-    reply::reply_chain(found, climbed.count, chain, out)
+    reply::reply_chain(climb::climb(stream, i), out)
 }

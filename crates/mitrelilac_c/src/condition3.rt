@@ -1,5 +1,6 @@
 // Condition 3 of what C receives, of the exported functions themselves: wherever mitrelilac_check returns 0, the words of mitrelilac_walk,
 // mitrelilac_jump and mitrelilac_climb agree. The claim is stated in specs/Exported.antt of crate mitrelilac; nothing calls this function.
+// (It is that of crate mitrelilac again: a function that took the four calls would have to require of them what their contracts say.)
 ghost use Rattle.check_nesting.specs.Check.{check_of};
 ghost use Rattle.walk.specs.Walk.{walk_of};
 ghost use Rattle.jump.specs.Jump.{jump_of};
@@ -10,7 +11,7 @@ ghost use Rattle.mitrelilac.specs.Exported.{call, Condition3};
 
 use mitrelilac::condition3::Returned;
 
-// Asks the check of a stream from a start, and the three finders of a position in it.
+/// Asks the check of a stream from a start, and the three finders of a position in it.
 pub fn four_calls(
     stream: &[u8],
     start: usize,

@@ -18,7 +18,7 @@ ghost use Rattle.reply.specs.Reply.{Replied};
 ghost use Rattle.reply.specs.Replies.{step_reply, kind_reply, decode_reply, name_reply, entry_reply, check_reply, finding_reply};
 ghost use Rattle.mitrelilac.specs.Exported.{call, SumsUp};
 
-// One step from a position. End: 0, position. A record: 1, index, where its bytes start, how many they are, next position.
+/// One step from a position. End: 0, position. A record: 1, index, where its bytes start, how many they are, next position.
 #[unsafe(no_mangle)]
 pub extern "C" fn mitrelilac_step(stream: &[u8], position: usize, out: &mut [u64; 5]) -> u32
     ensures { Replied (step_reply (step_of stream.now position)) result out.old out.new }
@@ -26,7 +26,7 @@ pub extern "C" fn mitrelilac_step(stream: &[u8], position: usize, out: &mut [u64
     mitrelilac::mitrelilac_step(stream, position, out)
 }
 
-// The kind of a record, 1 if it opens a scope, 1 if it closes one. Never refuses.
+/// The kind of a record, 1 if it opens a scope, 1 if it closes one. Never refuses.
 #[unsafe(no_mangle)]
 pub extern "C" fn mitrelilac_kind(rec: &[u8], out: &mut [u64; 3]) -> u32
     ensures { Replied (kind_reply (raw_kind rec.now)) result out.old out.new }
@@ -34,7 +34,7 @@ pub extern "C" fn mitrelilac_kind(rec: &[u8], out: &mut [u64; 3]) -> u32
     mitrelilac::mitrelilac_kind(rec, out)
 }
 
-// A record decoded: the number of its class, the bytes consumed, and its fields.
+/// A record decoded: the number of its class, the bytes consumed, and its fields.
 #[unsafe(no_mangle)]
 pub extern "C" fn mitrelilac_decode(rec: &[u8], out: &mut [u64; 24]) -> u32
     ensures { Replied (decode_reply (decode rec.now)) result out.old out.new }
@@ -42,7 +42,7 @@ pub extern "C" fn mitrelilac_decode(rec: &[u8], out: &mut [u64; 24]) -> u32
     mitrelilac::mitrelilac_decode(rec, out)
 }
 
-// The name of a record: 1, where it starts, how long it is; 0, 0, 0 where there is none.
+/// The name of a record: 1, where it starts, how long it is; 0, 0, 0 where there is none.
 #[unsafe(no_mangle)]
 pub extern "C" fn mitrelilac_name(rec: &[u8], out: &mut [u64; 3]) -> u32
     ensures { Replied (name_reply (name_of rec.now)) result out.old out.new }
@@ -50,7 +50,7 @@ pub extern "C" fn mitrelilac_name(rec: &[u8], out: &mut [u64; 3]) -> u32
     mitrelilac::mitrelilac_name(rec, out)
 }
 
-// The entry k of a register list, from 0 on: the register, where its name starts, how long it is.
+/// The entry k of a register list, from 0 on: the register, where its name starts, how long it is.
 #[unsafe(no_mangle)]
 pub extern "C" fn mitrelilac_register_entry(rec: &[u8], k: usize, out: &mut [u64; 3]) -> u32
     ensures { Replied (entry_reply (register_entry rec.now k)) result out.old out.new }
@@ -58,7 +58,7 @@ pub extern "C" fn mitrelilac_register_entry(rec: &[u8], k: usize, out: &mut [u64
     mitrelilac::mitrelilac_register_entry(rec, k, out)
 }
 
-// The nesting check from a start: records read and their bytes, fillers passed over and theirs, openers, deepest nesting.
+/// The nesting check from a start: records read and their bytes, fillers passed over and theirs, openers, deepest nesting.
 #[unsafe(no_mangle)]
 pub extern "C" fn mitrelilac_check(stream: &[u8], start: usize, out: &mut [u64; 6]) -> u32
     ensures replied { Replied (check_reply (check_of stream.now start)) result out.old out.new }
@@ -67,8 +67,8 @@ pub extern "C" fn mitrelilac_check(stream: &[u8], start: usize, out: &mut [u64; 
     mitrelilac::mitrelilac_check(stream, start, out)
 }
 
-// The scopes that enclose the record at i, by steps from a start: the number of records read, how many scopes there are, and 64 places
-// that list them, the outermost first, 0 behind them.
+/// The scopes that enclose the record at i, by steps from a start: the number of records read, how many scopes there are, and 64 places
+/// that list them, the outermost first, 0 behind them.
 #[unsafe(no_mangle)]
 pub extern "C" fn mitrelilac_walk(stream: &[u8], start: usize, i: usize, out: &mut [u64; 66]) -> u32
     ensures { Replied (finding_reply (walk_of stream.now start i)) result out.old out.new }
@@ -76,7 +76,7 @@ pub extern "C" fn mitrelilac_walk(stream: &[u8], start: usize, i: usize, out: &m
     mitrelilac::mitrelilac_walk(stream, start, i, out)
 }
 
-// As walking, but scopes that close before i are jumped over.
+/// As walking, but scopes that close before i are jumped over.
 #[unsafe(no_mangle)]
 pub extern "C" fn mitrelilac_jump(stream: &[u8], start: usize, i: usize, out: &mut [u64; 66]) -> u32
     ensures { Replied (finding_reply (jump_of stream.now start i)) result out.old out.new }
@@ -84,7 +84,7 @@ pub extern "C" fn mitrelilac_jump(stream: &[u8], start: usize, i: usize, out: &m
     mitrelilac::mitrelilac_jump(stream, start, i, out)
 }
 
-// The scopes that enclose the opener at i, by parent fields: the number of links, then as walking, but the innermost first.
+/// The scopes that enclose the opener at i, by parent fields: the number of links, then as walking, but the innermost first.
 #[unsafe(no_mangle)]
 pub extern "C" fn mitrelilac_climb(stream: &[u8], i: usize, out: &mut [u64; 66]) -> u32
     ensures { Replied (finding_reply (climb_of stream.now i)) result out.old out.new }

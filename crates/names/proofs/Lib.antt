@@ -1,4 +1,1 @@
 pub mod Run
-pub mod Names
-pub mod Rows
-pub mod Numbers

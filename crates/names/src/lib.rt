@@ -1,102 +1,100 @@
 // Names in lent bytes (pdb's parse_cstring, parse_u8_pascal_string, take and parse_symbol_name).
 //
 // A name is kept as where it starts and how long it is; `as_bytes` gives the bytes themselves, out of the lent slice.
-#![tactic(auto)]
+#![tactic(auto, unfolding(crate::specs::Name::bytes, crate::specs::Name::cstring, crate::specs::Name::symbol_name, crate::specs::Name::bytes_of))]
 
-ghost use Rattle.std.specs.Prelude.{◌≡◌, drop};
-ghost use Rattle.names.specs.Name.{run, bytes, cstring, pascal, symbol_name};
-ghost use Rattle.names.specs.Answer.{part_of};
+ghost use Rattle.std.specs.Prelude.{◌≡◌};
+ghost use Rattle.common.specs.Buffer.{Reads};
+ghost use Rattle.names.specs.Name.{run, bytes, cstring, pascal, rest, symbol_name};
 ghost use Rattle.names.specs.Lent.{IsPart};
 
 use common::Refusal;
+use common::buffer::ParseBuffer;
 
-// Some of the lent bytes.
-#[derive(Clone, Copy)]
+/// Some of the lent bytes.
+#[derive(Clone, Copy, Debug, PartialEq, Eq)]
 pub struct Part {
-    // The position of the first.
+    /// The position of the first.
     pub start: usize,
 
-    // How many they are.
+    /// How many they are.
     pub len: usize,
 }
 
-// What reading a name answers: the name and the position after it, or the refusal.
-#[derive(Clone, Copy)]
-pub enum ParsedPart {
-    Value(Part, usize),
-    Refused(Refusal),
-}
-
-// Kinds below this one have names of a length and bytes, the others names up to a zero.
+/// Kinds below this one have names of a length and bytes, the others names up to a zero.
 pub const S_ST_MAX: u16 = 0x1100;
 
-// How many bytes stand before the first zero, or the end, from a position on.
-fn before_zero(s: &[u8], at: usize) -> usize
-    ensures { result ≡ run (drop at s.now) }
+/// How many bytes stand before the first zero, or the end.
+fn before_zero(s: &[u8]) -> usize
+    ensures { result ≡ run s.now }
 {
-    let mut i = at;
-    while i < s.len() {
-        if s[i] == 0 {
-            return i - at;
-        }
-        i += 1;
-    }
-    i - at
+    memchr::memchr(0, s).unwrap_or(s.len())
 }
 
-pub fn parse_cstring(s: &[u8], at: usize) -> ParsedPart
-    ensures { part_of result ≡ cstring s.now at }
+/// Reads bytes up to a zero, and the zero.
+#[inline(always)]
+pub fn parse_cstring(buf: &mut ParseBuffer) -> Result<Part, Refusal>
+    ensures { Reads cstring buf.old result buf.new }
 {
-    if s.len() <= at {
-        return ParsedPart::Refused(Refusal::RUNS_OUT);
+    let start = buf.pos;
+    let rest = buf.rest();
+    let len = before_zero(rest);
+    if rest.len() <= len {
+        return Err(Refusal::UnexpectedEof(0));
     }
-    let n = before_zero(s, at);
-    if n < s.len() - at {
-        ParsedPart::Value(Part { start: at, len: n }, at + n + 1)
-    } else {
-        ParsedPart::Refused(Refusal::RUNS_OUT)
-    }
+    buf.pos += len + 1;
+    Ok(Part { start, len })
 }
 
-// The n bytes at a position.
-fn take(s: &[u8], at: usize, n: usize) -> ParsedPart
-    ensures { part_of result ≡ bytes n s.now at }
+/// Reads n bytes.
+fn take(buf: &mut ParseBuffer, n: usize) -> Result<Part, Refusal>
+    ensures { Reads (bytes n) buf.old result buf.new }
 {
-    if common::has_room(s, at, n) {
-        ParsedPart::Value(Part { start: at, len: n }, at + n)
-    } else {
-        ParsedPart::Refused(Refusal::RUNS_OUT)
+    let start = buf.pos;
+    if !common::has_room(buf.bytes, start, n) {
+        return Err(Refusal::UnexpectedEof(0));
     }
+    buf.pos += n;
+    Ok(Part { start, len: n })
 }
 
-pub fn parse_u8_pascal_string(s: &[u8], at: usize) -> ParsedPart
-    ensures { part_of result ≡ pascal s.now at }
+/// Reads a length of one byte, and as many bytes.
+#[inline(always)]
+pub fn parse_u8_pascal_string(buf: &mut ParseBuffer) -> Result<Part, Refusal>
+    ensures { Reads pascal buf.old result buf.new }
 {
-    if at < s.len() {
-        take(s, at + 1, common::u8_at(s, at) as usize)
-    } else {
-        ParsedPart::Refused(Refusal::RUNS_OUT)
-    }
+    let len: u8 = buf.parse()?;
+    take(buf, len as usize)
 }
 
-pub fn parse_symbol_name(s: &[u8], at: usize, kind: u16) -> ParsedPart
-    ensures { part_of result ≡ symbol_name kind s.now at }
+/// Reads all that is left, perhaps nothing.
+pub fn take_rest(buf: &mut ParseBuffer) -> Part
+    ensures { Reads rest buf.old (Ok result) buf.new }
+{
+    let start = buf.pos;
+    let len = buf.rest().len();
+    buf.pos = buf.bytes.len();
+    Part { start, len }
+}
+
+/// Reads the name of a record of this kind.
+#[inline(always)]
+pub fn parse_symbol_name(buf: &mut ParseBuffer, kind: u16) -> Result<Part, Refusal>
+    ensures { Reads (symbol_name kind) buf.old result buf.new }
 {
     if kind < S_ST_MAX {
-        parse_u8_pascal_string(s, at)
+        parse_u8_pascal_string(buf)
     } else {
-        parse_cstring(s, at)
+        parse_cstring(buf)
     }
 }
 
-// The bytes of a part, and none where it does not lie within the lent bytes.
+/// The bytes of a part, and none where it does not lie within the lent bytes.
 pub fn as_bytes(s: &[u8], p: Part) -> &[u8]
     ensures { IsPart s.entry p result }
 {
-    let start = p.start;
-    let len = p.len;
-    if common::has_room(s, start, len) {
-        &s[start..start + len]
+    if common::has_room(s, p.start, p.len) {
+        &s[p.start..p.start + p.len]
     } else {
         &s[..0]
     }

@@ -1,43 +1,20 @@
 -- Fields that are no plain numbers, as words.
-use Rattle.std.specs.Prelude.{ℕ}
+use Rattle.std.specs.Prelude.{ℕ, Option, is_some}
+use Rattle.names.specs.declared.Part.{Part}
 use Rattle.variant.specs.declared.Variant.{Variant}
 use Rattle.variant.specs.declared.Variant.TheVariants.{U8, U16, U32, U64, I16, I32, I64}
-use Rattle.words.specs.Word.{signed_word}
-use Rattle.records.specs.declared.OptionU16.{OptionU16}
-use Rattle.records.specs.declared.OptionU16.TheVariants as O16
-use Rattle.records.specs.declared.OptionU32.{OptionU32}
-use Rattle.records.specs.declared.OptionU32.TheVariants as O32
-use Rattle.records.specs.declared.OptionPart.{OptionPart}
-use Rattle.records.specs.declared.OptionPart.TheVariants as OP
+use Rattle.words.specs.Word.{truth, signed_word}
 use Rattle.records.specs.declared.TrampolineType.{TrampolineType}
 use Rattle.records.specs.declared.TrampolineType.TheVariants.{Incremental, BranchIsland, Unknown as UnknownTrampoline}
 use Rattle.records.specs.declared.ThunkKind.{ThunkKind}
 use Rattle.records.specs.declared.ThunkKind.TheVariants.{NoType, Adjustor, VCall, PCode, Load, Unknown}
 
--- what may be missing: whether it is there, and what it is, 0 where it is missing (for an OptionU32, `or_zero32` of records)
-abbrev pub has16 : OptionU16 → ℕ
-has16 O16.None = 0
-has16 (O16.Some x) = 1
+-- what may be missing: whether it is there (what it is, is `unwrap_or` with 0, or with this part, where it is missing)
+abbrev pub has : {A : Type 0} → Option A → ℕ
+has o = truth (is_some o)
 
-abbrev pub or_zero16 : OptionU16 → ℕ
-or_zero16 O16.None = 0
-or_zero16 (O16.Some x) = x
-
-abbrev pub has32 : OptionU32 → ℕ
-has32 O32.None = 0
-has32 (O32.Some x) = 1
-
-abbrev pub has_part : OptionPart → ℕ
-has_part OP.None = 0
-has_part (OP.Some p) = 1
-
-abbrev pub start_or_zero : OptionPart → ℕ
-start_or_zero OP.None = 0
-start_or_zero (OP.Some p) = p.start
-
-abbrev pub len_or_zero : OptionPart → ℕ
-len_or_zero OP.None = 0
-len_or_zero (OP.Some p) = p.len
+abbrev pub no_part : Part
+no_part = record { start = 0; len = 0 }
 
 -- the numeric value of a constant: which of pdb's variants it is, and the value
 abbrev pub variant_number : Variant → ℕ
@@ -80,18 +57,10 @@ thunk_value PCode = 0
 thunk_value Load = 0
 thunk_value (Unknown code) = code
 
-abbrev pub target_start : ThunkKind → ℕ
-target_start NoType = 0
-target_start (Adjustor a) = a.target.start
-target_start (VCall x) = 0
-target_start PCode = 0
-target_start Load = 0
-target_start (Unknown code) = 0
-
-abbrev pub target_len : ThunkKind → ℕ
-target_len NoType = 0
-target_len (Adjustor a) = a.target.len
-target_len (VCall x) = 0
-target_len PCode = 0
-target_len Load = 0
-target_len (Unknown code) = 0
+abbrev pub thunk_target : ThunkKind → Part
+thunk_target NoType = no_part
+thunk_target (Adjustor a) = a.target
+thunk_target (VCall x) = no_part
+thunk_target PCode = no_part
+thunk_target Load = no_part
+thunk_target (Unknown code) = no_part

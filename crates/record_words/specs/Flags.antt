@@ -1,17 +1,12 @@
 -- The flags of a record as one word.
-use Rattle.std.specs.Prelude.{ℕ, ◌+◌, ◌*◌, List, [], ◌∷◌, Bool}
+use Rattle.std.specs.Prelude.{ℕ, [], ◌∷◌}
 use Rattle.records.specs.declared.flags.PublicFlags.{PublicFlags}
 use Rattle.records.specs.declared.flags.ProcedureFlags.{ProcedureFlags}
 use Rattle.records.specs.declared.flags.CompileFlags.{CompileFlags}
 use Rattle.records.specs.declared.flags.ExportSymbolFlags.{ExportSymbolFlags}
 use Rattle.records.specs.declared.flags.LocalVariableFlags.{LocalVariableFlags}
 use Rattle.records.specs.declared.flags.SeparatedCodeFlags.{SeparatedCodeFlags}
-use Rattle.words.specs.Word.{truth}
-
--- a bit for each flag, the lowest first
-abbrev pub bits : List Bool → ℕ
-bits [] = 0
-bits (b ∷ bs) = truth b + 2 * bits bs
+use Rattle.words.specs.Word.{bits}
 
 abbrev pub public_bits : PublicFlags → ℕ
 public_bits f = bits (f.code ∷ f.function ∷ f.managed ∷ f.msil ∷ [])

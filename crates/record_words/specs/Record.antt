@@ -1,10 +1,9 @@
 -- A decoded record as words: the number of its class, the bytes consumed, and its fields in the order of pdb's structs. A name is where
 -- it starts and its length; a place is its offset and its section.
-use Rattle.std.specs.Prelude.{ℕ, List, [], ◌∷◌}
+use Rattle.std.specs.Prelude.{ℕ, List, [], ◌∷◌, unwrap_or}
 use Rattle.constants.specs.Kind.{class_number}
 use Rattle.constants.specs.declared.Class.{Class}
 use Rattle.constants.specs.declared.Class.TheVariants as C
-use Rattle.records.specs.Field.{or_zero32}
 use Rattle.records.specs.declared.ObjNameSymbol.{ObjNameSymbol}
 use Rattle.records.specs.declared.RegisterVariableSymbol.{RegisterVariableSymbol}
 use Rattle.records.specs.declared.ConstantSymbol.{ConstantSymbol}
@@ -32,7 +31,7 @@ use Rattle.records.specs.declared.SeparatedCodeSymbol.{SeparatedCodeSymbol}
 use Rattle.records.specs.declared.SymbolData.{SymbolData}
 use Rattle.records.specs.declared.SymbolData.TheVariants as D
 use Rattle.words.specs.Word.{truth, signed_word}
-use Rattle.record_words.specs.Fields.{has16, or_zero16, has32, has_part, start_or_zero, len_or_zero, variant_number, variant_value, trampoline_number, thunk_number, thunk_value, target_start, target_len}
+use Rattle.record_words.specs.Fields.{has, no_part, variant_number, variant_value, trampoline_number, thunk_number, thunk_value, thunk_target}
 use Rattle.record_words.specs.Flags.{public_bits, procedure_bits, compile_bits, export_bits, local_bits, separated_bits}
 
 abbrev pub obj_name_words : ObjNameSymbol → List ℕ
@@ -67,7 +66,7 @@ public_words x = public_bits x.flags ∷ x.offset.offset ∷ x.offset.section �
 abbrev pub procedure_words : ProcedureSymbol → List ℕ
 procedure_words x =
     truth x.global ∷ truth x.dpc
-    ∷ or_zero32 x.parent ∷ x.end ∷ or_zero32 x.next
+    ∷ unwrap_or x.parent 0 ∷ x.end ∷ unwrap_or x.next 0
     ∷ x.len ∷ x.dbg_start_offset ∷ x.dbg_end_offset ∷ x.type_index
     ∷ x.offset.offset ∷ x.offset.section
     ∷ procedure_bits x.flags
@@ -84,9 +83,9 @@ abbrev pub compile_flags_words : CompileFlagsSymbol → List ℕ
 compile_flags_words x =
     x.language ∷ compile_bits x.flags ∷ x.cpu_type
     ∷ x.frontend_version.major ∷ x.frontend_version.minor ∷ x.frontend_version.build
-    ∷ has16 x.frontend_version.qfe ∷ or_zero16 x.frontend_version.qfe
+    ∷ has x.frontend_version.qfe ∷ unwrap_or x.frontend_version.qfe 0
     ∷ x.backend_version.major ∷ x.backend_version.minor ∷ x.backend_version.build
-    ∷ has16 x.backend_version.qfe ∷ or_zero16 x.backend_version.qfe
+    ∷ has x.backend_version.qfe ∷ unwrap_or x.backend_version.qfe 0
     ∷ x.version_string.start ∷ x.version_string.len ∷ []
 
 abbrev pub using_namespace_words : UsingNamespaceSymbol → List ℕ
@@ -96,19 +95,19 @@ using_namespace_words x = x.name.start ∷ x.name.len ∷ []
 abbrev pub procedure_reference_words : ProcedureReferenceSymbol → List ℕ
 procedure_reference_words x =
     truth x.global ∷ x.sum_name ∷ x.symbol_index
-    ∷ has16 x.module ∷ or_zero16 x.module
-    ∷ has_part x.name ∷ start_or_zero x.name ∷ len_or_zero x.name ∷ []
+    ∷ has x.module ∷ unwrap_or x.module 0
+    ∷ has x.name ∷ (unwrap_or x.name no_part).start ∷ (unwrap_or x.name no_part).len ∷ []
 
 abbrev pub data_reference_words : DataReferenceSymbol → List ℕ
 data_reference_words x =
     x.sum_name ∷ x.symbol_index
-    ∷ has16 x.module ∷ or_zero16 x.module
-    ∷ has_part x.name ∷ start_or_zero x.name ∷ len_or_zero x.name ∷ []
+    ∷ has x.module ∷ unwrap_or x.module 0
+    ∷ has x.name ∷ (unwrap_or x.name no_part).start ∷ (unwrap_or x.name no_part).len ∷ []
 
 abbrev pub annotation_reference_words : AnnotationReferenceSymbol → List ℕ
 annotation_reference_words x =
     x.sum_name ∷ x.symbol_index
-    ∷ has16 x.module ∷ or_zero16 x.module
+    ∷ has x.module ∷ unwrap_or x.module 0
     ∷ x.name.start ∷ x.name.len ∷ []
 
 abbrev pub trampoline_words : TrampolineSymbol → List ℕ
@@ -129,8 +128,8 @@ build_info_words x = x.id ∷ []
 -- whether invocations are counted, their count, and the annotations
 abbrev pub inline_site_words : InlineSiteSymbol → List ℕ
 inline_site_words x =
-    or_zero32 x.parent ∷ x.end ∷ x.inlinee
-    ∷ has32 x.invocations ∷ or_zero32 x.invocations
+    unwrap_or x.parent 0 ∷ x.end ∷ x.inlinee
+    ∷ has x.invocations ∷ unwrap_or x.invocations 0
     ∷ x.annotations.start ∷ x.annotations.len ∷ []
 
 abbrev pub label_words : LabelSymbol → List ℕ
@@ -144,9 +143,9 @@ register_relative_words x = signed_word x.offset ∷ x.type_index ∷ x.register
 
 abbrev pub thunk_words : ThunkSymbol → List ℕ
 thunk_words x =
-    or_zero32 x.parent ∷ x.end ∷ or_zero32 x.next
+    unwrap_or x.parent 0 ∷ x.end ∷ unwrap_or x.next 0
     ∷ x.offset.offset ∷ x.offset.section ∷ x.len
-    ∷ thunk_number x.kind ∷ thunk_value x.kind ∷ target_start x.kind ∷ target_len x.kind
+    ∷ thunk_number x.kind ∷ thunk_value x.kind ∷ (thunk_target x.kind).start ∷ (thunk_target x.kind).len
     ∷ x.name.start ∷ x.name.len ∷ []
 
 abbrev pub separated_code_words : SeparatedCodeSymbol → List ℕ

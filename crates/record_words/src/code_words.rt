@@ -1,146 +1,136 @@
-// The fields of the records that speak of code, as words.
-//
-// Each function stores the fields of its record from place 2 on, straight into the lent words, and answers the number of the class.
-ghost use Rattle.std.specs.Prelude.{◌≡◌};
-ghost use Rattle.std.proofs.lemmas.List.Edits.{sets};
-ghost use Rattle.constants.specs.Kind.{class_number};
-ghost use Rattle.constants.specs.declared.Class.TheVariants as Class;
-ghost use Rattle.record_words.specs.Record.{procedure_words, trampoline_words, inline_site_words, label_words, block_words, thunk_words, separated_code_words};
+// The words of the records that speak of code.
+#![tactic(auto, unfolding(crate::specs::Record::record_words))]
 
-use constants::classes;
+ghost use Rattle.std.specs.Prelude.{◌≡◌};
+ghost use Rattle.records.specs.declared.SymbolData.TheVariants as SymbolData;
+ghost use Rattle.record_words.specs.Record.{record_words};
+
+use super::field::{procedure_bits, separated_bits, thunk_kind};
+use constants::Class;
 use records::{
     BlockSymbol, InlineSiteSymbol, LabelSymbol, ProcedureSymbol, SeparatedCodeSymbol, ThunkSymbol,
     TrampolineSymbol,
 };
 
-pub fn procedure(x: ProcedureSymbol, out: &mut [u64; 24]) -> u64
-    ensures class { result ≡ class_number Class.Procedure }
-    ensures fields { out.new ≡ sets out.old 2 (procedure_words x) }
+pub fn procedure(x: &ProcedureSymbol, consumed: u64) -> [u64; 16]
+    ensures { result ≡ record_words (SymbolData.Procedure x.now) consumed }
 {
-    let parent = x.parent;
-    let next = x.next;
-    let place = x.offset;
-    let flags = x.flags;
-    let name = x.name;
-    out[2] = words::truth(x.global);
-    out[3] = words::truth(x.dpc);
-    out[4] = super::field::or_zero32(parent);
-    out[5] = x.end as u64;
-    out[6] = super::field::or_zero32(next);
-    out[7] = x.len as u64;
-    out[8] = x.dbg_start_offset as u64;
-    out[9] = x.dbg_end_offset as u64;
-    out[10] = x.type_index as u64;
-    out[11] = place.offset as u64;
-    out[12] = place.section as u64;
-    out[13] = super::field::procedure_bits(flags);
-    out[14] = name.start as u64;
-    out[15] = name.len as u64;
-    classes::PROCEDURE
+    [
+        Class::Procedure as u64,
+        consumed,
+        x.global as u64,
+        x.dpc as u64,
+        x.parent.unwrap_or(0) as u64,
+        x.end as u64,
+        x.next.unwrap_or(0) as u64,
+        x.len as u64,
+        x.dbg_start_offset as u64,
+        x.dbg_end_offset as u64,
+        x.type_index as u64,
+        x.offset.offset as u64,
+        x.offset.section as u64,
+        procedure_bits(x.flags),
+        x.name.start as u64,
+        x.name.len as u64,
+    ]
 }
 
-pub fn trampoline(x: TrampolineSymbol, out: &mut [u64; 24]) -> u64
-    ensures class { result ≡ class_number Class.Trampoline }
-    ensures fields { out.new ≡ sets out.old 2 (trampoline_words x) }
+pub fn trampoline(x: &TrampolineSymbol, consumed: u64) -> [u64; 8]
+    ensures { result ≡ record_words (SymbolData.Trampoline x.now) consumed }
 {
-    let sort = x.tramp_type;
-    let thunk = x.thunk;
-    let target = x.target;
-    out[2] = super::field::trampoline_number(sort);
-    out[3] = x.size as u64;
-    out[4] = thunk.offset as u64;
-    out[5] = thunk.section as u64;
-    out[6] = target.offset as u64;
-    out[7] = target.section as u64;
-    classes::TRAMPOLINE
+    [
+        Class::Trampoline as u64,
+        consumed,
+        x.tramp_type as u64,
+        x.size as u64,
+        x.thunk.offset as u64,
+        x.thunk.section as u64,
+        x.target.offset as u64,
+        x.target.section as u64,
+    ]
 }
 
-pub fn inline_site(x: InlineSiteSymbol, out: &mut [u64; 24]) -> u64
-    ensures class { result ≡ class_number Class.InlineSite }
-    ensures fields { out.new ≡ sets out.old 2 (inline_site_words x) }
+pub fn inline_site(x: &InlineSiteSymbol, consumed: u64) -> [u64; 9]
+    ensures { result ≡ record_words (SymbolData.InlineSite x.now) consumed }
 {
-    let parent = x.parent;
-    let invocations = x.invocations;
-    let annotations = x.annotations;
-    out[2] = super::field::or_zero32(parent);
-    out[3] = x.end as u64;
-    out[4] = x.inlinee as u64;
-    out[5] = super::field::has32(invocations);
-    out[6] = super::field::or_zero32(invocations);
-    out[7] = annotations.start as u64;
-    out[8] = annotations.len as u64;
-    classes::INLINE_SITE
+    [
+        Class::InlineSite as u64,
+        consumed,
+        x.parent.unwrap_or(0) as u64,
+        x.end as u64,
+        x.inlinee as u64,
+        x.invocations.is_some() as u64,
+        x.invocations.unwrap_or(0) as u64,
+        x.annotations.start as u64,
+        x.annotations.len as u64,
+    ]
 }
 
-pub fn label(x: LabelSymbol, out: &mut [u64; 24]) -> u64
-    ensures class { result ≡ class_number Class.Label }
-    ensures fields { out.new ≡ sets out.old 2 (label_words x) }
+pub fn label(x: &LabelSymbol, consumed: u64) -> [u64; 7]
+    ensures { result ≡ record_words (SymbolData.Label x.now) consumed }
 {
-    let place = x.offset;
-    let flags = x.flags;
-    let name = x.name;
-    out[2] = place.offset as u64;
-    out[3] = place.section as u64;
-    out[4] = super::field::procedure_bits(flags);
-    out[5] = name.start as u64;
-    out[6] = name.len as u64;
-    classes::LABEL
+    [
+        Class::Label as u64,
+        consumed,
+        x.offset.offset as u64,
+        x.offset.section as u64,
+        procedure_bits(x.flags),
+        x.name.start as u64,
+        x.name.len as u64,
+    ]
 }
 
-pub fn block(x: BlockSymbol, out: &mut [u64; 24]) -> u64
-    ensures class { result ≡ class_number Class.Block }
-    ensures fields { out.new ≡ sets out.old 2 (block_words x) }
+pub fn block(x: &BlockSymbol, consumed: u64) -> [u64; 9]
+    ensures { result ≡ record_words (SymbolData.Block x.now) consumed }
 {
-    let place = x.offset;
-    let name = x.name;
-    out[2] = x.parent as u64;
-    out[3] = x.end as u64;
-    out[4] = x.len as u64;
-    out[5] = place.offset as u64;
-    out[6] = place.section as u64;
-    out[7] = name.start as u64;
-    out[8] = name.len as u64;
-    classes::BLOCK
+    [
+        Class::Block as u64,
+        consumed,
+        x.parent as u64,
+        x.end as u64,
+        x.len as u64,
+        x.offset.offset as u64,
+        x.offset.section as u64,
+        x.name.start as u64,
+        x.name.len as u64,
+    ]
 }
 
-pub fn thunk(x: ThunkSymbol, out: &mut [u64; 24]) -> u64
-    ensures class { result ≡ class_number Class.Thunk }
-    ensures fields { out.new ≡ sets out.old 2 (thunk_words x) }
+pub fn thunk(x: &ThunkSymbol, consumed: u64) -> [u64; 14]
+    ensures { result ≡ record_words (SymbolData.Thunk x.now) consumed }
 {
-    let parent = x.parent;
-    let next = x.next;
-    let place = x.offset;
-    let kind = x.kind;
-    let name = x.name;
-    out[2] = super::field::or_zero32(parent);
-    out[3] = x.end as u64;
-    out[4] = super::field::or_zero32(next);
-    out[5] = place.offset as u64;
-    out[6] = place.section as u64;
-    out[7] = x.len as u64;
-    out[8] = super::field::thunk_number(kind);
-    out[9] = super::field::thunk_value(kind);
-    out[10] = super::field::target_start(kind);
-    out[11] = super::field::target_len(kind);
-    out[12] = name.start as u64;
-    out[13] = name.len as u64;
-    classes::THUNK
+    let (kind, value, target) = thunk_kind(x.kind);
+    [
+        Class::Thunk as u64,
+        consumed,
+        x.parent.unwrap_or(0) as u64,
+        x.end as u64,
+        x.next.unwrap_or(0) as u64,
+        x.offset.offset as u64,
+        x.offset.section as u64,
+        x.len as u64,
+        kind,
+        value,
+        target.start as u64,
+        target.len as u64,
+        x.name.start as u64,
+        x.name.len as u64,
+    ]
 }
 
-pub fn separated_code(x: SeparatedCodeSymbol, out: &mut [u64; 24]) -> u64
-    ensures class { result ≡ class_number Class.SeparatedCode }
-    ensures fields { out.new ≡ sets out.old 2 (separated_code_words x) }
+pub fn separated_code(x: &SeparatedCodeSymbol, consumed: u64) -> [u64; 10]
+    ensures { result ≡ record_words (SymbolData.SeparatedCode x.now) consumed }
 {
-    let flags = x.flags;
-    let place = x.offset;
-    let parent_place = x.parent_offset;
-    out[2] = x.parent as u64;
-    out[3] = x.end as u64;
-    out[4] = x.len as u64;
-    out[5] = super::field::separated_bits(flags);
-    out[6] = place.offset as u64;
-    out[7] = place.section as u64;
-    out[8] = parent_place.offset as u64;
-    out[9] = parent_place.section as u64;
-    classes::SEPARATED_CODE
+    [
+        Class::SeparatedCode as u64,
+        consumed,
+        x.parent as u64,
+        x.end as u64,
+        x.len as u64,
+        separated_bits(x.flags),
+        x.offset.offset as u64,
+        x.offset.section as u64,
+        x.parent_offset.offset as u64,
+        x.parent_offset.section as u64,
+    ]
 }

@@ -1,147 +1,146 @@
-// The fields of the records that speak of a module as a whole, and of what links it with others, as words.
-//
-// Each function stores the fields of its record from place 2 on, straight into the lent words, and answers the number of the class.
-ghost use Rattle.std.specs.Prelude.{◌≡◌};
-ghost use Rattle.std.proofs.lemmas.List.Edits.{sets};
-ghost use Rattle.constants.specs.Kind.{class_number};
-ghost use Rattle.constants.specs.declared.Class.TheVariants as Class;
-ghost use Rattle.record_words.specs.Record.{obj_name_words, public_words, compile_flags_words, using_namespace_words, procedure_reference_words, data_reference_words, annotation_reference_words, export_words, build_info_words};
+// The words of the records that speak of a module as a whole, and of what links it with others.
+#![tactic(auto, unfolding(crate::specs::Record::record_words))]
 
-use constants::classes;
+ghost use Rattle.std.specs.Prelude.{◌≡◌};
+ghost use Rattle.records.specs.declared.SymbolData.TheVariants as SymbolData;
+ghost use Rattle.record_words.specs.Record.{record_words};
+
+use super::field::{NO_PART, compile_bits, export_bits, public_bits};
+use constants::Class;
 use records::{
     AnnotationReferenceSymbol, BuildInfoSymbol, CompileFlagsSymbol, DataReferenceSymbol,
     ExportSymbol, ObjNameSymbol, ProcedureReferenceSymbol, PublicSymbol, UsingNamespaceSymbol,
 };
 
-pub fn obj_name(x: ObjNameSymbol, out: &mut [u64; 24]) -> u64
-    ensures class { result ≡ class_number Class.ObjName }
-    ensures fields { out.new ≡ sets out.old 2 (obj_name_words x) }
+pub fn obj_name(x: &ObjNameSymbol, consumed: u64) -> [u64; 5]
+    ensures { result ≡ record_words (SymbolData.ObjName x.now) consumed }
 {
-    let name = x.name;
-    out[2] = x.signature as u64;
-    out[3] = name.start as u64;
-    out[4] = name.len as u64;
-    classes::OBJ_NAME
+    [
+        Class::ObjName as u64,
+        consumed,
+        x.signature as u64,
+        x.name.start as u64,
+        x.name.len as u64,
+    ]
 }
 
-pub fn public_symbol(x: PublicSymbol, out: &mut [u64; 24]) -> u64
-    ensures class { result ≡ class_number Class.Public }
-    ensures fields { out.new ≡ sets out.old 2 (public_words x) }
+pub fn public_symbol(x: &PublicSymbol, consumed: u64) -> [u64; 7]
+    ensures { result ≡ record_words (SymbolData.Public x.now) consumed }
 {
-    let flags = x.flags;
-    let place = x.offset;
-    let name = x.name;
-    out[2] = super::field::public_bits(flags);
-    out[3] = place.offset as u64;
-    out[4] = place.section as u64;
-    out[5] = name.start as u64;
-    out[6] = name.len as u64;
-    classes::PUBLIC
+    [
+        Class::Public as u64,
+        consumed,
+        public_bits(x.flags),
+        x.offset.offset as u64,
+        x.offset.section as u64,
+        x.name.start as u64,
+        x.name.len as u64,
+    ]
 }
 
-pub fn compile_flags(x: CompileFlagsSymbol, out: &mut [u64; 24]) -> u64
-    ensures class { result ≡ class_number Class.CompileFlags }
-    ensures fields { out.new ≡ sets out.old 2 (compile_flags_words x) }
+pub fn compile_flags(x: &CompileFlagsSymbol, consumed: u64) -> [u64; 17]
+    ensures { result ≡ record_words (SymbolData.CompileFlags x.now) consumed }
 {
-    let flags = x.flags;
+    let x = *x; // of as many fields behind a reference a proof does not know the ranges
     let front = x.frontend_version;
     let back = x.backend_version;
-    let name = x.version_string;
-    let front_qfe = front.qfe;
-    let back_qfe = back.qfe;
-    out[2] = x.language as u64;
-    out[3] = super::field::compile_bits(flags);
-    out[4] = x.cpu_type as u64;
-    out[5] = front.major as u64;
-    out[6] = front.minor as u64;
-    out[7] = front.build as u64;
-    out[8] = super::field::has16(front_qfe);
-    out[9] = super::field::or_zero16(front_qfe);
-    out[10] = back.major as u64;
-    out[11] = back.minor as u64;
-    out[12] = back.build as u64;
-    out[13] = super::field::has16(back_qfe);
-    out[14] = super::field::or_zero16(back_qfe);
-    out[15] = name.start as u64;
-    out[16] = name.len as u64;
-    classes::COMPILE_FLAGS
+    [
+        Class::CompileFlags as u64,
+        consumed,
+        x.language as u64,
+        compile_bits(x.flags),
+        x.cpu_type as u64,
+        front.major as u64,
+        front.minor as u64,
+        front.build as u64,
+        front.qfe.is_some() as u64,
+        front.qfe.unwrap_or(0) as u64,
+        back.major as u64,
+        back.minor as u64,
+        back.build as u64,
+        back.qfe.is_some() as u64,
+        back.qfe.unwrap_or(0) as u64,
+        x.version_string.start as u64,
+        x.version_string.len as u64,
+    ]
 }
 
-pub fn using_namespace(x: UsingNamespaceSymbol, out: &mut [u64; 24]) -> u64
-    ensures class { result ≡ class_number Class.UsingNamespace }
-    ensures fields { out.new ≡ sets out.old 2 (using_namespace_words x) }
+pub fn using_namespace(x: &UsingNamespaceSymbol, consumed: u64) -> [u64; 4]
+    ensures { result ≡ record_words (SymbolData.UsingNamespace x.now) consumed }
 {
-    let name = x.name;
-    out[2] = name.start as u64;
-    out[3] = name.len as u64;
-    classes::USING_NAMESPACE
+    [
+        Class::UsingNamespace as u64,
+        consumed,
+        x.name.start as u64,
+        x.name.len as u64,
+    ]
 }
 
-pub fn procedure_reference(x: ProcedureReferenceSymbol, out: &mut [u64; 24]) -> u64
-    ensures class { result ≡ class_number Class.ProcedureReference }
-    ensures fields { out.new ≡ sets out.old 2 (procedure_reference_words x) }
+pub fn procedure_reference(x: &ProcedureReferenceSymbol, consumed: u64) -> [u64; 10]
+    ensures { result ≡ record_words (SymbolData.ProcedureReference x.now) consumed }
 {
-    let module = x.module;
-    let name = x.name;
-    out[2] = words::truth(x.global);
-    out[3] = x.sum_name as u64;
-    out[4] = x.symbol_index as u64;
-    out[5] = super::field::has16(module);
-    out[6] = super::field::or_zero16(module);
-    out[7] = super::field::has_part(name);
-    out[8] = super::field::start_or_zero(name);
-    out[9] = super::field::len_or_zero(name);
-    classes::PROCEDURE_REFERENCE
+    let name = x.name.unwrap_or(NO_PART);
+    [
+        Class::ProcedureReference as u64,
+        consumed,
+        x.global as u64,
+        x.sum_name as u64,
+        x.symbol_index as u64,
+        x.module.is_some() as u64,
+        x.module.unwrap_or(0) as u64,
+        x.name.is_some() as u64,
+        name.start as u64,
+        name.len as u64,
+    ]
 }
 
-pub fn data_reference(x: DataReferenceSymbol, out: &mut [u64; 24]) -> u64
-    ensures class { result ≡ class_number Class.DataReference }
-    ensures fields { out.new ≡ sets out.old 2 (data_reference_words x) }
+pub fn data_reference(x: &DataReferenceSymbol, consumed: u64) -> [u64; 9]
+    ensures { result ≡ record_words (SymbolData.DataReference x.now) consumed }
 {
-    let module = x.module;
-    let name = x.name;
-    out[2] = x.sum_name as u64;
-    out[3] = x.symbol_index as u64;
-    out[4] = super::field::has16(module);
-    out[5] = super::field::or_zero16(module);
-    out[6] = super::field::has_part(name);
-    out[7] = super::field::start_or_zero(name);
-    out[8] = super::field::len_or_zero(name);
-    classes::DATA_REFERENCE
+    let name = x.name.unwrap_or(NO_PART);
+    [
+        Class::DataReference as u64,
+        consumed,
+        x.sum_name as u64,
+        x.symbol_index as u64,
+        x.module.is_some() as u64,
+        x.module.unwrap_or(0) as u64,
+        x.name.is_some() as u64,
+        name.start as u64,
+        name.len as u64,
+    ]
 }
 
-pub fn annotation_reference(x: AnnotationReferenceSymbol, out: &mut [u64; 24]) -> u64
-    ensures class { result ≡ class_number Class.AnnotationReference }
-    ensures fields { out.new ≡ sets out.old 2 (annotation_reference_words x) }
+pub fn annotation_reference(x: &AnnotationReferenceSymbol, consumed: u64) -> [u64; 8]
+    ensures { result ≡ record_words (SymbolData.AnnotationReference x.now) consumed }
 {
-    let module = x.module;
-    let name = x.name;
-    out[2] = x.sum_name as u64;
-    out[3] = x.symbol_index as u64;
-    out[4] = super::field::has16(module);
-    out[5] = super::field::or_zero16(module);
-    out[6] = name.start as u64;
-    out[7] = name.len as u64;
-    classes::ANNOTATION_REFERENCE
+    [
+        Class::AnnotationReference as u64,
+        consumed,
+        x.sum_name as u64,
+        x.symbol_index as u64,
+        x.module.is_some() as u64,
+        x.module.unwrap_or(0) as u64,
+        x.name.start as u64,
+        x.name.len as u64,
+    ]
 }
 
-pub fn export_symbol(x: ExportSymbol, out: &mut [u64; 24]) -> u64
-    ensures class { result ≡ class_number Class.Export }
-    ensures fields { out.new ≡ sets out.old 2 (export_words x) }
+pub fn export_symbol(x: &ExportSymbol, consumed: u64) -> [u64; 6]
+    ensures { result ≡ record_words (SymbolData.Export x.now) consumed }
 {
-    let flags = x.flags;
-    let name = x.name;
-    out[2] = x.ordinal as u64;
-    out[3] = super::field::export_bits(flags);
-    out[4] = name.start as u64;
-    out[5] = name.len as u64;
-    classes::EXPORT
+    [
+        Class::Export as u64,
+        consumed,
+        x.ordinal as u64,
+        export_bits(x.flags),
+        x.name.start as u64,
+        x.name.len as u64,
+    ]
 }
 
-pub fn build_info(x: BuildInfoSymbol, out: &mut [u64; 24]) -> u64
-    ensures class { result ≡ class_number Class.BuildInfo }
-    ensures fields { out.new ≡ sets out.old 2 (build_info_words x) }
+pub fn build_info(x: &BuildInfoSymbol, consumed: u64) -> [u64; 3]
+    ensures { result ≡ record_words (SymbolData.BuildInfo x.now) consumed }
 {
-    out[2] = x.id as u64;
-    classes::BUILD_INFO
+    [Class::BuildInfo as u64, consumed, x.id as u64]
 }

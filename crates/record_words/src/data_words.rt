@@ -1,119 +1,123 @@
-// The fields of the records that speak of data and of types, as words.
-//
-// Each function stores the fields of its record from place 2 on, straight into the lent words, and answers the number of the class.
-ghost use Rattle.std.specs.Prelude.{◌≡◌};
-ghost use Rattle.std.proofs.lemmas.List.Edits.{sets};
-ghost use Rattle.constants.specs.Kind.{class_number};
-ghost use Rattle.constants.specs.declared.Class.TheVariants as Class;
-ghost use Rattle.record_words.specs.Record.{register_variable_words, constant_words, user_defined_type_words, multi_register_variable_words, data_words, thread_storage_words, local_words, register_relative_words};
+// The words of the records that speak of data and of types.
+#![tactic(auto, unfolding(crate::specs::Record::record_words))]
 
-use constants::classes;
+ghost use Rattle.std.specs.Prelude.{◌≡◌};
+ghost use Rattle.records.specs.declared.SymbolData.TheVariants as SymbolData;
+ghost use Rattle.record_words.specs.Record.{record_words};
+
+use super::field::{local_bits, variant_number, variant_value};
+use constants::Class;
 use records::{
     ConstantSymbol, DataSymbol, LocalSymbol, MultiRegisterVariableSymbol, RegisterRelativeSymbol,
     RegisterVariableSymbol, ThreadStorageSymbol, UserDefinedTypeSymbol,
 };
 
-pub fn register_variable(x: RegisterVariableSymbol, out: &mut [u64; 24]) -> u64
-    ensures class { result ≡ class_number Class.RegisterVariable }
-    ensures fields { out.new ≡ sets out.old 2 (register_variable_words x) }
+pub fn register_variable(x: &RegisterVariableSymbol, consumed: u64) -> [u64; 6]
+    ensures { result ≡ record_words (SymbolData.RegisterVariable x.now) consumed }
 {
-    let name = x.name;
-    out[2] = x.type_index as u64;
-    out[3] = x.register as u64;
-    out[4] = name.start as u64;
-    out[5] = name.len as u64;
-    classes::REGISTER_VARIABLE
+    [
+        Class::RegisterVariable as u64,
+        consumed,
+        x.type_index as u64,
+        x.register as u64,
+        x.name.start as u64,
+        x.name.len as u64,
+    ]
 }
 
-pub fn constant(x: ConstantSymbol, out: &mut [u64; 24]) -> u64
-    ensures class { result ≡ class_number Class.Constant }
-    ensures fields { out.new ≡ sets out.old 2 (constant_words x) }
+pub fn constant(x: &ConstantSymbol, consumed: u64) -> [u64; 8]
+    ensures { result ≡ record_words (SymbolData.Constant x.now) consumed }
 {
-    let value = x.value;
-    let name = x.name;
-    out[2] = words::truth(x.managed);
-    out[3] = x.type_index as u64;
-    out[4] = super::field::variant_number(value);
-    out[5] = super::field::variant_value(value);
-    out[6] = name.start as u64;
-    out[7] = name.len as u64;
-    classes::CONSTANT
+    [
+        Class::Constant as u64,
+        consumed,
+        x.managed as u64,
+        x.type_index as u64,
+        variant_number(x.value),
+        variant_value(x.value),
+        x.name.start as u64,
+        x.name.len as u64,
+    ]
 }
 
-pub fn user_defined_type(x: UserDefinedTypeSymbol, out: &mut [u64; 24]) -> u64
-    ensures class { result ≡ class_number Class.UserDefinedType }
-    ensures fields { out.new ≡ sets out.old 2 (user_defined_type_words x) }
+pub fn user_defined_type(x: &UserDefinedTypeSymbol, consumed: u64) -> [u64; 5]
+    ensures { result ≡ record_words (SymbolData.UserDefinedType x.now) consumed }
 {
-    let name = x.name;
-    out[2] = x.type_index as u64;
-    out[3] = name.start as u64;
-    out[4] = name.len as u64;
-    classes::USER_DEFINED_TYPE
+    [
+        Class::UserDefinedType as u64,
+        consumed,
+        x.type_index as u64,
+        x.name.start as u64,
+        x.name.len as u64,
+    ]
 }
 
-pub fn multi_register_variable(x: MultiRegisterVariableSymbol, out: &mut [u64; 24]) -> u64
-    ensures class { result ≡ class_number Class.MultiRegisterVariable }
-    ensures fields { out.new ≡ sets out.old 2 (multi_register_variable_words x) }
+pub fn multi_register_variable(x: &MultiRegisterVariableSymbol, consumed: u64) -> [u64; 5]
+    ensures { result ≡ record_words (SymbolData.MultiRegisterVariable x.now) consumed }
 {
-    out[2] = x.type_index as u64;
-    out[3] = x.count as u64;
-    out[4] = x.first as u64;
-    classes::MULTI_REGISTER_VARIABLE
+    [
+        Class::MultiRegisterVariable as u64,
+        consumed,
+        x.type_index as u64,
+        x.count as u64,
+        x.first as u64,
+    ]
 }
 
-pub fn data_item(x: DataSymbol, out: &mut [u64; 24]) -> u64
-    ensures class { result ≡ class_number Class.Data }
-    ensures fields { out.new ≡ sets out.old 2 (data_words x) }
+pub fn data_item(x: &DataSymbol, consumed: u64) -> [u64; 9]
+    ensures { result ≡ record_words (SymbolData.Data x.now) consumed }
 {
-    let place = x.offset;
-    let name = x.name;
-    out[2] = words::truth(x.global);
-    out[3] = words::truth(x.managed);
-    out[4] = x.type_index as u64;
-    out[5] = place.offset as u64;
-    out[6] = place.section as u64;
-    out[7] = name.start as u64;
-    out[8] = name.len as u64;
-    classes::DATA
+    [
+        Class::Data as u64,
+        consumed,
+        x.global as u64,
+        x.managed as u64,
+        x.type_index as u64,
+        x.offset.offset as u64,
+        x.offset.section as u64,
+        x.name.start as u64,
+        x.name.len as u64,
+    ]
 }
 
-pub fn thread_storage(x: ThreadStorageSymbol, out: &mut [u64; 24]) -> u64
-    ensures class { result ≡ class_number Class.ThreadStorage }
-    ensures fields { out.new ≡ sets out.old 2 (thread_storage_words x) }
+pub fn thread_storage(x: &ThreadStorageSymbol, consumed: u64) -> [u64; 8]
+    ensures { result ≡ record_words (SymbolData.ThreadStorage x.now) consumed }
 {
-    let place = x.offset;
-    let name = x.name;
-    out[2] = words::truth(x.global);
-    out[3] = x.type_index as u64;
-    out[4] = place.offset as u64;
-    out[5] = place.section as u64;
-    out[6] = name.start as u64;
-    out[7] = name.len as u64;
-    classes::THREAD_STORAGE
+    [
+        Class::ThreadStorage as u64,
+        consumed,
+        x.global as u64,
+        x.type_index as u64,
+        x.offset.offset as u64,
+        x.offset.section as u64,
+        x.name.start as u64,
+        x.name.len as u64,
+    ]
 }
 
-pub fn local(x: LocalSymbol, out: &mut [u64; 24]) -> u64
-    ensures class { result ≡ class_number Class.Local }
-    ensures fields { out.new ≡ sets out.old 2 (local_words x) }
+pub fn local(x: &LocalSymbol, consumed: u64) -> [u64; 6]
+    ensures { result ≡ record_words (SymbolData.Local x.now) consumed }
 {
-    let flags = x.flags;
-    let name = x.name;
-    out[2] = x.type_index as u64;
-    out[3] = super::field::local_bits(flags);
-    out[4] = name.start as u64;
-    out[5] = name.len as u64;
-    classes::LOCAL
+    [
+        Class::Local as u64,
+        consumed,
+        x.type_index as u64,
+        local_bits(x.flags),
+        x.name.start as u64,
+        x.name.len as u64,
+    ]
 }
 
-pub fn register_relative(x: RegisterRelativeSymbol, out: &mut [u64; 24]) -> u64
-    ensures class { result ≡ class_number Class.RegisterRelative }
-    ensures fields { out.new ≡ sets out.old 2 (register_relative_words x) }
+pub fn register_relative(x: &RegisterRelativeSymbol, consumed: u64) -> [u64; 7]
+    ensures { result ≡ record_words (SymbolData.RegisterRelative x.now) consumed }
 {
-    let name = x.name;
-    out[2] = words::i32_word(x.offset);
-    out[3] = x.type_index as u64;
-    out[4] = x.register as u64;
-    out[5] = name.start as u64;
-    out[6] = name.len as u64;
-    classes::REGISTER_RELATIVE
+    [
+        Class::RegisterRelative as u64,
+        consumed,
+        words::signed_word(x.offset),
+        x.type_index as u64,
+        x.register as u64,
+        x.name.start as u64,
+        x.name.len as u64,
+    ]
 }

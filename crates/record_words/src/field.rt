@@ -1,80 +1,20 @@
 // The fields of decoded records that are no plain numbers, as words.
-ghost use Rattle.std.specs.Prelude.{◌≡◌, ◌+◌, ◌*◌, ◌<◌, ◌^◌};
-ghost use Rattle.records.specs.Field.{or_zero32};
-ghost use Rattle.words.specs.Word.{truth};
-ghost use Rattle.record_words.specs.Fields.{has16, or_zero16, has32, has_part, start_or_zero, len_or_zero, variant_number, variant_value, trampoline_number, thunk_number, thunk_value, target_start, target_len};
+ghost use Rattle.std.specs.Prelude.{◌≡◌};
+ghost use Rattle.record_words.specs.Fields.{variant_number, variant_value, thunk_number, thunk_value, thunk_target};
 ghost use Rattle.record_words.specs.Flags.{public_bits, procedure_bits, compile_bits, export_bits, local_bits, separated_bits};
 
+use names::Part;
+use records::ThunkKind;
 use records::flags::{
     CompileFlags, ExportSymbolFlags, LocalVariableFlags, ProcedureFlags, PublicFlags,
     SeparatedCodeFlags,
 };
-use records::{OptionPart, OptionU16, OptionU32, ThunkKind, TrampolineType};
 use variant::Variant;
 
-pub fn has16(o: OptionU16) -> u64
-    ensures { result ≡ has16 o }
-{
-    match o {
-        OptionU16::Some(_) => 1,
-        OptionU16::None => 0,
-    }
-}
+/// The part that is told where there is none.
+pub const NO_PART: Part = Part { start: 0, len: 0 };
 
-pub fn or_zero16(o: OptionU16) -> u64
-    ensures { result ≡ or_zero16 o }
-{
-    match o {
-        OptionU16::Some(x) => x as u64,
-        OptionU16::None => 0,
-    }
-}
-
-pub fn has32(o: OptionU32) -> u64
-    ensures { result ≡ has32 o }
-{
-    match o {
-        OptionU32::Some(_) => 1,
-        OptionU32::None => 0,
-    }
-}
-
-pub fn or_zero32(o: OptionU32) -> u64
-    ensures { result ≡ or_zero32 o }
-{
-    match o {
-        OptionU32::Some(x) => x as u64,
-        OptionU32::None => 0,
-    }
-}
-
-pub fn has_part(o: OptionPart) -> u64
-    ensures { result ≡ has_part o }
-{
-    match o {
-        OptionPart::Some(_) => 1,
-        OptionPart::None => 0,
-    }
-}
-
-pub fn start_or_zero(o: OptionPart) -> u64
-    ensures { result ≡ start_or_zero o }
-{
-    match o {
-        OptionPart::Some(p) => p.start as u64,
-        OptionPart::None => 0,
-    }
-}
-
-pub fn len_or_zero(o: OptionPart) -> u64
-    ensures { result ≡ len_or_zero o }
-{
-    match o {
-        OptionPart::Some(p) => p.len as u64,
-        OptionPart::None => 0,
-    }
-}
-
+/// Which of pdb's variants a value is; between the unsigned ones and the signed ones pdb has an I8.
 pub fn variant_number(v: Variant) -> u64
     ensures { result ≡ variant_number v }
 {
@@ -89,6 +29,7 @@ pub fn variant_number(v: Variant) -> u64
     }
 }
 
+/// A value, whatever its variant.
 pub fn variant_value(v: Variant) -> u64
     ensures { result ≡ variant_value v }
 {
@@ -97,139 +38,98 @@ pub fn variant_value(v: Variant) -> u64
         Variant::U16(x) => x as u64,
         Variant::U32(x) => x as u64,
         Variant::U64(x) => x,
-        Variant::I16(x) => words::i16_word(x),
-        Variant::I32(x) => words::i32_word(x),
-        Variant::I64(x) => words::i64_word(x),
+        Variant::I16(x) => words::signed_word(x),
+        Variant::I32(x) => words::signed_word(x),
+        Variant::I64(x) => words::signed_word(x),
     }
 }
 
-pub fn trampoline_number(t: TrampolineType) -> u64
-    ensures { result ≡ trampoline_number t }
-{
-    match t {
-        TrampolineType::Incremental => 0,
-        TrampolineType::BranchIsland => 1,
-        TrampolineType::Unknown => 2,
-    }
-}
-
-pub fn thunk_number(k: ThunkKind) -> u64
-    ensures { result ≡ thunk_number k }
+/// The number of a thunk's variant, the number that the variant holds, and the adjustor's target.
+pub fn thunk_kind(k: ThunkKind) -> (u64, u64, Part)
+    ensures { result ≡ (thunk_number k, thunk_value k, thunk_target k) }
 {
     match k {
-        ThunkKind::NoType => 0,
-        ThunkKind::Adjustor(_) => 1,
-        ThunkKind::VCall(_) => 2,
-        ThunkKind::PCode => 3,
-        ThunkKind::Load => 4,
-        ThunkKind::Unknown(_) => 5,
+        ThunkKind::NoType => (0, 0, NO_PART),
+        ThunkKind::Adjustor(a) => (1, a.delta as u64, a.target),
+        ThunkKind::VCall(entry) => (2, entry as u64, NO_PART),
+        ThunkKind::PCode => (3, 0, NO_PART),
+        ThunkKind::Load => (4, 0, NO_PART),
+        ThunkKind::Unknown(code) => (5, code as u64, NO_PART),
     }
-}
-
-pub fn thunk_value(k: ThunkKind) -> u64
-    ensures { result ≡ thunk_value k }
-{
-    match k {
-        ThunkKind::NoType => 0,
-        ThunkKind::Adjustor(a) => a.delta as u64,
-        ThunkKind::VCall(x) => x as u64,
-        ThunkKind::PCode => 0,
-        ThunkKind::Load => 0,
-        ThunkKind::Unknown(code) => code as u64,
-    }
-}
-
-pub fn target_start(k: ThunkKind) -> u64
-    ensures { result ≡ target_start k }
-{
-    match k {
-        ThunkKind::NoType => 0,
-        ThunkKind::Adjustor(a) => a.target.start as u64,
-        ThunkKind::VCall(_) => 0,
-        ThunkKind::PCode => 0,
-        ThunkKind::Load => 0,
-        ThunkKind::Unknown(_) => 0,
-    }
-}
-
-pub fn target_len(k: ThunkKind) -> u64
-    ensures { result ≡ target_len k }
-{
-    match k {
-        ThunkKind::NoType => 0,
-        ThunkKind::Adjustor(a) => a.target.len as u64,
-        ThunkKind::VCall(_) => 0,
-        ThunkKind::PCode => 0,
-        ThunkKind::Load => 0,
-        ThunkKind::Unknown(_) => 0,
-    }
-}
-
-// The bit `low` below the bits of a word.
-fn bit(low: bool, high: u64) -> u64
-    requires { high < 2 ^ 32 }
-    ensures is { result ≡ truth low + 2 * high }
-    ensures small { result < 2 * high + 2 }
-{
-    words::truth(low) + 2 * high
 }
 
 pub fn public_bits(f: PublicFlags) -> u64
     ensures { result ≡ public_bits f }
 {
-    bit(f.code, bit(f.function, bit(f.managed, bit(f.msil, 0))))
+    words::bits(&[f.code, f.function, f.managed, f.msil])
 }
 
 pub fn procedure_bits(f: ProcedureFlags) -> u64
     ensures { result ≡ procedure_bits f }
 {
-    let high = bit(
+    words::bits(&[
+        f.nofpo,
+        f.int,
+        f.far,
+        f.never,
         f.notreached,
-        bit(f.cust_call, bit(f.noinline, bit(f.optdbginfo, 0))),
-    );
-    bit(f.nofpo, bit(f.int, bit(f.far, bit(f.never, high))))
+        f.cust_call,
+        f.noinline,
+        f.optdbginfo,
+    ])
 }
 
 pub fn compile_bits(f: CompileFlags) -> u64
     ensures { result ≡ compile_bits f }
 {
-    let high = bit(f.msil_module, bit(f.sdl, bit(f.pgo, bit(f.exp_module, 0))));
-    let mid = bit(
-        f.managed,
-        bit(f.security_checks, bit(f.hot_patch, bit(f.cvtcil, high))),
-    );
-    bit(
+    words::bits(&[
         f.edit_and_continue,
-        bit(
-            f.no_debug_info,
-            bit(f.link_time_codegen, bit(f.no_data_align, mid)),
-        ),
-    )
+        f.no_debug_info,
+        f.link_time_codegen,
+        f.no_data_align,
+        f.managed,
+        f.security_checks,
+        f.hot_patch,
+        f.cvtcil,
+        f.msil_module,
+        f.sdl,
+        f.pgo,
+        f.exp_module,
+    ])
 }
 
 pub fn export_bits(f: ExportSymbolFlags) -> u64
     ensures { result ≡ export_bits f }
 {
-    let high = bit(f.no_name, bit(f.ordinal, bit(f.forwarder, 0)));
-    bit(f.constant, bit(f.data, bit(f.private, high)))
+    words::bits(&[
+        f.constant,
+        f.data,
+        f.private,
+        f.no_name,
+        f.ordinal,
+        f.forwarder,
+    ])
 }
 
 pub fn local_bits(f: LocalVariableFlags) -> u64
     ensures { result ≡ local_bits f }
 {
-    let high = bit(f.isenreg_glob, bit(f.isenreg_stat, 0));
-    let mid = bit(
-        f.isaliased,
-        bit(f.isalias, bit(f.isretvalue, bit(f.isoptimizedout, high))),
-    );
-    bit(
+    words::bits(&[
         f.isparam,
-        bit(f.addrtaken, bit(f.compgenx, bit(f.isaggregate, mid))),
-    )
+        f.addrtaken,
+        f.compgenx,
+        f.isaggregate,
+        f.isaliased,
+        f.isalias,
+        f.isretvalue,
+        f.isoptimizedout,
+        f.isenreg_glob,
+        f.isenreg_stat,
+    ])
 }
 
 pub fn separated_bits(f: SeparatedCodeFlags) -> u64
     ensures { result ≡ separated_bits f }
 {
-    bit(f.islexicalscope, bit(f.returnstoparent, 0))
+    words::bits(&[f.islexicalscope, f.returnstoparent])
 }

@@ -1,7 +1,7 @@
 // A decoded record as words, in places that the caller lends: the number of its class, the bytes consumed, and its fields.
 //
-// `field` has the fields that are no plain numbers; the others have the records, in the rooms and the order of their decoders.
-// (A module may not have a crate's name in a program that reaches both.)
+// `field` has the fields that are no plain numbers; the others have the words of the records, in the order of the header's table and in
+// the rooms of their decoders. (A module may not have a crate's name in a program that reaches both.)
 #![tactic(auto)]
 
 pub mod code_words;
@@ -10,54 +10,56 @@ pub mod data_words;
 pub mod field;
 
 ghost use Rattle.std.specs.Prelude.{◌≡◌};
-ghost use Rattle.std.proofs.lemmas.List.Edits.{sets};
-ghost use Rattle.constants.specs.Kind.{class_number};
 ghost use Rattle.words.specs.Written.{written};
-ghost use Rattle.record_words.specs.Record.{class_in, field_words, record_words};
+ghost use Rattle.record_words.specs.Record.{record_words};
 
-use constants::classes;
+use code_words::{block, inline_site, label, procedure, separated_code, thunk, trampoline};
+use compiland_words::{
+    annotation_reference, build_info, compile_flags, data_reference, export_symbol, obj_name,
+    procedure_reference, public_symbol, using_namespace,
+};
+use constants::Class;
+use data_words::{
+    constant, data_item, local, multi_register_variable, register_relative, register_variable,
+    thread_storage, user_defined_type,
+};
 use records::SymbolData;
+use words::put;
 
-// Stores the fields from place 2 on and answers the number of the class.
-fn put_fields(d: SymbolData, out: &mut [u64; 24]) -> u64
-    ensures class { result ≡ class_number (class_in d) }
-    ensures fields { out.new ≡ sets out.old 2 (field_words d) }
+/// Stores the words of a record, one store for each. The record is lent and the function not inlined: at a caller that has made the record
+/// the back end would take it apart before it is matched.
+#[inline(never)]
+pub fn write_record(d: &SymbolData, consumed: usize, out: &mut [u64; 24])
+    ensures { out.new ≡ written (record_words d.now consumed) out.old }
 {
+    let n = consumed as u64;
     match d {
-        SymbolData::ScopeEnd => classes::SCOPE_END,
-        SymbolData::ObjName(x) => compiland_words::obj_name(x, out),
-        SymbolData::RegisterVariable(x) => data_words::register_variable(x, out),
-        SymbolData::Constant(x) => data_words::constant(x, out),
-        SymbolData::UserDefinedType(x) => data_words::user_defined_type(x, out),
-        SymbolData::MultiRegisterVariable(x) => data_words::multi_register_variable(x, out),
-        SymbolData::Data(x) => data_words::data_item(x, out),
-        SymbolData::Public(x) => compiland_words::public_symbol(x, out),
-        SymbolData::Procedure(x) => code_words::procedure(x, out),
-        SymbolData::ThreadStorage(x) => data_words::thread_storage(x, out),
-        SymbolData::CompileFlags(x) => compiland_words::compile_flags(x, out),
-        SymbolData::UsingNamespace(x) => compiland_words::using_namespace(x, out),
-        SymbolData::ProcedureReference(x) => compiland_words::procedure_reference(x, out),
-        SymbolData::DataReference(x) => compiland_words::data_reference(x, out),
-        SymbolData::AnnotationReference(x) => compiland_words::annotation_reference(x, out),
-        SymbolData::Trampoline(x) => code_words::trampoline(x, out),
-        SymbolData::Export(x) => compiland_words::export_symbol(x, out),
-        SymbolData::Local(x) => data_words::local(x, out),
-        SymbolData::BuildInfo(x) => compiland_words::build_info(x, out),
-        SymbolData::InlineSite(x) => code_words::inline_site(x, out),
-        SymbolData::InlineSiteEnd => classes::INLINE_SITE_END,
-        SymbolData::ProcedureEnd => classes::PROCEDURE_END,
-        SymbolData::Label(x) => code_words::label(x, out),
-        SymbolData::Block(x) => code_words::block(x, out),
-        SymbolData::RegisterRelative(x) => data_words::register_relative(x, out),
-        SymbolData::Thunk(x) => code_words::thunk(x, out),
-        SymbolData::SeparatedCode(x) => code_words::separated_code(x, out),
+        SymbolData::ScopeEnd => put(out, [Class::ScopeEnd as u64, n]),
+        SymbolData::ObjName(x) => put(out, obj_name(x, n)),
+        SymbolData::RegisterVariable(x) => put(out, register_variable(x, n)),
+        SymbolData::Constant(x) => put(out, constant(x, n)),
+        SymbolData::UserDefinedType(x) => put(out, user_defined_type(x, n)),
+        SymbolData::MultiRegisterVariable(x) => put(out, multi_register_variable(x, n)),
+        SymbolData::Data(x) => put(out, data_item(x, n)),
+        SymbolData::Public(x) => put(out, public_symbol(x, n)),
+        SymbolData::Procedure(x) => put(out, procedure(x, n)),
+        SymbolData::ThreadStorage(x) => put(out, thread_storage(x, n)),
+        SymbolData::CompileFlags(x) => put(out, compile_flags(x, n)),
+        SymbolData::UsingNamespace(x) => put(out, using_namespace(x, n)),
+        SymbolData::ProcedureReference(x) => put(out, procedure_reference(x, n)),
+        SymbolData::DataReference(x) => put(out, data_reference(x, n)),
+        SymbolData::AnnotationReference(x) => put(out, annotation_reference(x, n)),
+        SymbolData::Trampoline(x) => put(out, trampoline(x, n)),
+        SymbolData::Export(x) => put(out, export_symbol(x, n)),
+        SymbolData::Local(x) => put(out, local(x, n)),
+        SymbolData::BuildInfo(x) => put(out, build_info(x, n)),
+        SymbolData::InlineSite(x) => put(out, inline_site(x, n)),
+        SymbolData::InlineSiteEnd => put(out, [Class::InlineSiteEnd as u64, n]),
+        SymbolData::ProcedureEnd => put(out, [Class::ProcedureEnd as u64, n]),
+        SymbolData::Label(x) => put(out, label(x, n)),
+        SymbolData::Block(x) => put(out, block(x, n)),
+        SymbolData::RegisterRelative(x) => put(out, register_relative(x, n)),
+        SymbolData::Thunk(x) => put(out, thunk(x, n)),
+        SymbolData::SeparatedCode(x) => put(out, separated_code(x, n)),
     }
-}
-
-// The class and the bytes consumed come last, so that the match on the record is made once.
-pub fn write_record(d: SymbolData, consumed: usize, out: &mut [u64; 24])
-    ensures { out.new ≡ written (record_words d consumed) out.old }
-{
-    let class = put_fields(d, out);
-    words::put::put2(out, class, consumed as u64);
 }

@@ -8,11 +8,11 @@ use Rattle.records.specs.declared.flags.SeparatedCodeFlags.{SeparatedCodeFlags}
 use Rattle.records.specs.declared.flags.CompileFlags.{CompileFlags}
 
 -- whether bit k of x is set
-unfoldable pub bit : ℕ → ℕ → Bool
+abbrev pub bit : ℕ → ℕ → Bool
 bit k x = eqb (x / 2 ^ k % 2) 1
 
 -- CV_PUBSYMFLAGS
-unfoldable pub public_flags : ℕ → PublicFlags
+abbrev pub public_flags : ℕ → PublicFlags
 public_flags x =
     record {
       code = bit 0 x;
@@ -22,7 +22,7 @@ public_flags x =
     }
 
 -- CV_PROCFLAGS
-unfoldable pub procedure_flags : ℕ → ProcedureFlags
+abbrev pub procedure_flags : ℕ → ProcedureFlags
 procedure_flags x =
     record {
       nofpo = bit 0 x;
@@ -36,7 +36,7 @@ procedure_flags x =
     }
 
 -- CV_LVARFLAGS as pdb has it: cvinfo.h has fIsAggregated at bit 4, and the six after isaggregate one bit higher
-unfoldable pub local_flags : ℕ → LocalVariableFlags
+abbrev pub local_flags : ℕ → LocalVariableFlags
 local_flags x =
     record {
       isparam = bit 0 x;
@@ -52,7 +52,7 @@ local_flags x =
     }
 
 -- EXPORTSYM
-unfoldable pub export_flags : ℕ → ExportSymbolFlags
+abbrev pub export_flags : ℕ → ExportSymbolFlags
 export_flags x =
     record {
       constant = bit 0 x;
@@ -64,7 +64,7 @@ export_flags x =
     }
 
 -- CV_SEPCODEFLAGS
-unfoldable pub separated_flags : ℕ → SeparatedCodeFlags
+abbrev pub separated_flags : ℕ → SeparatedCodeFlags
 separated_flags x =
     record {
       islexicalscope = bit 0 x;
@@ -72,7 +72,7 @@ separated_flags x =
     }
 
 -- COMPILESYM and COMPILESYM3, the bits after iLanguage; bits 9 to 11 are false unless S_COMPILE3
-unfoldable pub compile_flags : ℕ → Bool → CompileFlags
+abbrev pub compile_flags : ℕ → Bool → CompileFlags
 compile_flags x compile3 =
     record {
       edit_and_continue = bit 0 x;

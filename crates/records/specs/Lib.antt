@@ -1,3 +1,3 @@
 pub mod Field
-pub mod Answer
 pub mod Flags
+pub mod Name

@@ -3,16 +3,16 @@
 ghost use Rattle.std.specs.Prelude.{◌≡◌};
 ghost use Rattle.records.specs.Flags.{procedure_flags, public_flags, export_flags, local_flags, separated_flags, compile_flags};
 
-// The flags of a `PublicSymbol`: what it is (CV_PUBSYMFLAGS).
-#[derive(Clone, Copy)]
+/// The flags of a `PublicSymbol`: what it is (CV_PUBSYMFLAGS).
+#[derive(Clone, Copy, Debug, PartialEq, Eq)]
 pub struct PublicFlags {
-    // It is code.
+    /// It is code.
     pub code: bool,
-    // It is a function.
+    /// It is a function.
     pub function: bool,
-    // It is managed code, native or IL.
+    /// It is managed code, native or IL.
     pub managed: bool,
-    // It is managed IL code.
+    /// It is managed IL code.
     pub msil: bool,
 }
 
@@ -24,10 +24,13 @@ impl PublicFlags {
     pub const MANAGED: u32 = 0x4;
 
     pub const MSIL: u32 = 0x8;
+}
 
-    pub fn from_bits(x: u32) -> Self
-        ensures { result ≡ public_flags x }
-    {
+impl From<u32> for PublicFlags {
+    ghost from_gives = { λ x flags. flags ≡ public_flags x };
+
+    #[inline(always)]
+    fn from(x: u32) -> Self {
         Self {
             code: x & Self::CODE != 0,
             function: x & Self::FUNCTION != 0,
@@ -37,24 +40,24 @@ impl PublicFlags {
     }
 }
 
-// The flags of a `ProcedureSymbol` or a `LabelSymbol`: how it returns and was compiled (CV_PROCFLAGS).
-#[derive(Clone, Copy)]
+/// The flags of a `ProcedureSymbol` or a `LabelSymbol`: how it returns and was compiled (CV_PROCFLAGS).
+#[derive(Clone, Copy, Debug, PartialEq, Eq)]
 pub struct ProcedureFlags {
-    // It has a frame pointer: none was omitted.
+    /// It has a frame pointer: none was omitted.
     pub nofpo: bool,
-    // It returns from an interrupt.
+    /// It returns from an interrupt.
     pub int: bool,
-    // It returns far.
+    /// It returns far.
     pub far: bool,
-    // It does not return.
+    /// It does not return.
     pub never: bool,
-    // It is never called.
+    /// It is never called.
     pub notreached: bool,
-    // It has a calling convention of its own.
+    /// It has a calling convention of its own.
     pub cust_call: bool,
-    // It is marked `noinline`.
+    /// It is marked `noinline`.
     pub noinline: bool,
-    // There is debug information for its optimized code.
+    /// There is debug information for its optimized code.
     pub optdbginfo: bool,
 }
 
@@ -74,10 +77,13 @@ impl ProcedureFlags {
     pub const NOINLINE: u8 = 0x40;
 
     pub const OPTDBGINFO: u8 = 0x80;
+}
 
-    pub fn from_bits(x: u8) -> Self
-        ensures { result ≡ procedure_flags x }
-    {
+impl From<u8> for ProcedureFlags {
+    ghost from_gives = { λ x flags. flags ≡ procedure_flags x };
+
+    #[inline(always)]
+    fn from(x: u8) -> Self {
         Self {
             nofpo: x & Self::NOFPO != 0,
             int: x & Self::INT != 0,
@@ -91,28 +97,28 @@ impl ProcedureFlags {
     }
 }
 
-// The flags of a `LocalSymbol`: what the variable is (CV_LVARFLAGS).
-#[derive(Clone, Copy)]
+/// The flags of a `LocalSymbol`: what the variable is (CV_LVARFLAGS).
+#[derive(Clone, Copy, Debug, PartialEq, Eq)]
 pub struct LocalVariableFlags {
-    // It is a parameter.
+    /// It is a parameter.
     pub isparam: bool,
-    // Its address is taken.
+    /// Its address is taken.
     pub addrtaken: bool,
-    // The compiler made it.
+    /// The compiler made it.
     pub compgenx: bool,
-    // It is split into parts that the compiler treats as variables of their own.
+    /// It is split into parts that the compiler treats as variables of their own.
     pub isaggregate: bool,
-    // It has several lifetimes at the same time.
+    /// It has several lifetimes at the same time.
     pub isaliased: bool,
-    // It is one of several lifetimes of a variable.
+    /// It is one of several lifetimes of a variable.
     pub isalias: bool,
-    // It is what the function returns.
+    /// It is what the function returns.
     pub isretvalue: bool,
-    // It has no lifetime: it was optimized out.
+    /// It has no lifetime: it was optimized out.
     pub isoptimizedout: bool,
-    // It is a global variable in a register.
+    /// It is a global variable in a register.
     pub isenreg_glob: bool,
-    // It is a static variable in a register.
+    /// It is a static variable in a register.
     pub isenreg_stat: bool,
 }
 
@@ -136,10 +142,13 @@ impl LocalVariableFlags {
     pub const ISENREG_GLOB: u16 = 0x100;
 
     pub const ISENREG_STAT: u16 = 0x200;
+}
 
-    pub fn from_bits(x: u16) -> Self
-        ensures { result ≡ local_flags x }
-    {
+impl From<u16> for LocalVariableFlags {
+    ghost from_gives = { λ x flags. flags ≡ local_flags x };
+
+    #[inline(always)]
+    fn from(x: u16) -> Self {
         Self {
             isparam: x & Self::ISPARAM != 0,
             addrtaken: x & Self::ADDRTAKEN != 0,
@@ -155,20 +164,20 @@ impl LocalVariableFlags {
     }
 }
 
-// The flags of an `ExportSymbol`: what is exported, and how.
-#[derive(Clone, Copy)]
+/// The flags of an `ExportSymbol`: what is exported, and how.
+#[derive(Clone, Copy, Debug, PartialEq, Eq)]
 pub struct ExportSymbolFlags {
-    // It is a constant.
+    /// It is a constant.
     pub constant: bool,
-    // It is data, such as a static variable.
+    /// It is data, such as a static variable.
     pub data: bool,
-    // It is private.
+    /// It is private.
     pub private: bool,
-    // It has no name.
+    /// It has no name.
     pub no_name: bool,
-    // Its ordinal was given explicitly.
+    /// Its ordinal was given explicitly.
     pub ordinal: bool,
-    // It is a forwarder, to a symbol of another library.
+    /// It is a forwarder, to a symbol of another library.
     pub forwarder: bool,
 }
 
@@ -184,10 +193,13 @@ impl ExportSymbolFlags {
     pub const ORDINAL: u16 = 0x10;
 
     pub const FORWARDER: u16 = 0x20;
+}
 
-    pub fn from_bits(x: u16) -> Self
-        ensures { result ≡ export_flags x }
-    {
+impl From<u16> for ExportSymbolFlags {
+    ghost from_gives = { λ x flags. flags ≡ export_flags x };
+
+    #[inline(always)]
+    fn from(x: u16) -> Self {
         Self {
             constant: x & Self::CONSTANT != 0,
             data: x & Self::DATA != 0,
@@ -199,12 +211,12 @@ impl ExportSymbolFlags {
     }
 }
 
-// The flags of a `SeparatedCodeSymbol`: what the code is (CV_SEPCODEFLAGS).
-#[derive(Clone, Copy)]
+/// The flags of a `SeparatedCodeSymbol`: what the code is (CV_SEPCODEFLAGS).
+#[derive(Clone, Copy, Debug, PartialEq, Eq)]
 pub struct SeparatedCodeFlags {
-    // It is a lexical scope too.
+    /// It is a lexical scope too.
     pub islexicalscope: bool,
-    // It returns to the code of its parent.
+    /// It returns to the code of its parent.
     pub returnstoparent: bool,
 }
 
@@ -212,10 +224,13 @@ impl SeparatedCodeFlags {
     pub const IS_LEXICAL_SCOPE: u32 = 0x1;
 
     pub const RETURNS_TO_PARENT: u32 = 0x2;
+}
 
-    pub fn from_bits(x: u32) -> Self
-        ensures { result ≡ separated_flags x }
-    {
+impl From<u32> for SeparatedCodeFlags {
+    ghost from_gives = { λ x flags. flags ≡ separated_flags x };
+
+    #[inline(always)]
+    fn from(x: u32) -> Self {
         Self {
             islexicalscope: x & Self::IS_LEXICAL_SCOPE != 0,
             returnstoparent: x & Self::RETURNS_TO_PARENT != 0,
@@ -223,32 +238,32 @@ impl SeparatedCodeFlags {
     }
 }
 
-// The flags of a `CompileFlagsSymbol`: what the module was compiled with.
-#[derive(Clone, Copy)]
+/// The flags of a `CompileFlagsSymbol`: what the module was compiled with.
+#[derive(Clone, Copy, Debug, PartialEq, Eq)]
 pub struct CompileFlags {
-    // For edit and continue.
+    /// For edit and continue.
     pub edit_and_continue: bool,
-    // Without debug information.
+    /// Without debug information.
     pub no_debug_info: bool,
-    // With code generation at link time, /LTCG.
+    /// With code generation at link time, /LTCG.
     pub link_time_codegen: bool,
-    // With /bzalign: data is not aligned.
+    /// With /bzalign: data is not aligned.
     pub no_data_align: bool,
-    // It has managed code or data.
+    /// It has managed code or data.
     pub managed: bool,
-    // With security checks, /GS.
+    /// With security checks, /GS.
     pub security_checks: bool,
-    // For patches of running code, /hotpatch.
+    /// For patches of running code, /hotpatch.
     pub hot_patch: bool,
-    // By CvtCIL.
+    /// By CvtCIL.
     pub cvtcil: bool,
-    // It is a .NET module of MSIL.
+    /// It is a .NET module of MSIL.
     pub msil_module: bool,
-    // With /sdl. S_COMPILE3 alone has this flag and the next two.
+    /// With /sdl. S_COMPILE3 alone has this flag and the next two.
     pub sdl: bool,
-    // Guided by a profile, /ltcg:pgo.
+    /// Guided by a profile, /ltcg:pgo.
     pub pgo: bool,
-    // It is a .exp module.
+    /// It is a .exp module.
     pub exp_module: bool,
 }
 
@@ -277,7 +292,8 @@ impl CompileFlags {
 
     pub const EXP_MODULE: u16 = 0x800;
 
-    // The last three are flags of S_COMPILE3 alone.
+    /// The last three are flags of S_COMPILE3 alone.
+    #[inline(always)]
     pub fn from_bits(x: u16, compile3: bool) -> Self
         ensures { result ≡ compile_flags x compile3 }
     {

@@ -3,10 +3,12 @@
 // Indexes, types and ids are u32, registers and sections u16; names and annotations are parts of the record.
 #![tactic(auto)]
 
+pub mod field;
 pub mod flags;
 
-ghost use Rattle.std.specs.Prelude.{◌≡◌};
-ghost use Rattle.records.specs.Field.{index_of, module_of, trampoline_of};
+ghost use Rattle.std.specs.Prelude.{◌≡◌, None, Some};
+ghost use Rattle.records.specs.Field.{trampoline_of};
+ghost use Rattle.records.specs.Name.{name_in};
 
 use common::Refusal;
 use flags::{
@@ -16,268 +18,219 @@ use flags::{
 use names::Part;
 use variant::Variant;
 
-// A number of 16 bits that may be missing: a module, a QFE number.
-#[derive(Clone, Copy)]
-pub enum OptionU16 {
-    // Missing.
-    None,
-    // There, with the number.
-    Some(u16),
-}
-
-// A number of 32 bits that may be missing: a parent, a next, a count of invocations.
-#[derive(Clone, Copy)]
-pub enum OptionU32 {
-    // Missing.
-    None,
-    // There, with the number.
-    Some(u32),
-}
-
-// A name that may be missing.
-#[derive(Clone, Copy)]
-pub enum OptionPart {
-    // The record has no name.
-    None,
-    // Where the name stands in the record.
-    Some(Part),
-}
-
-// A parent or a next: 0 means none.
-pub fn index_of(x: u32) -> OptionU32
-    ensures { result ≡ index_of x }
-{
-    if x == 0 {
-        OptionU32::None
-    } else {
-        OptionU32::Some(x)
-    }
-}
-
-// A module: 0 means none, else it is one less.
-pub fn module_of(x: u16) -> OptionU16
-    ensures { result ≡ module_of x }
-{
-    if x == 0 {
-        OptionU16::None
-    } else {
-        OptionU16::Some(x - 1)
-    }
-}
-
-// A place in the program: an offset within a section.
-#[derive(Clone, Copy)]
+/// A place in the program: an offset within a section.
+#[derive(Clone, Copy, Debug, PartialEq, Eq)]
 pub struct SectionOffset {
-    // The offset from the start of the section.
+    /// The offset from the start of the section.
     pub offset: u32,
-    // The number of the section.
+    /// The number of the section.
     pub section: u16,
 }
 
-// The object file that a module was made from. S_OBJNAME, S_OBJNAME_ST.
-#[derive(Clone, Copy)]
+/// The object file that a module was made from. S_OBJNAME, S_OBJNAME_ST.
+#[derive(Clone, Copy, Debug, PartialEq, Eq)]
 pub struct ObjNameSymbol {
-    // The signature of the object file.
+    /// The signature of the object file.
     pub signature: u32,
-    // The path of the object file.
+    /// The path of the object file.
     pub name: Part,
 }
 
-// A variable that is kept in a register. S_REGISTER, S_REGISTER_ST.
-#[derive(Clone, Copy)]
+/// A variable that is kept in a register. S_REGISTER, S_REGISTER_ST.
+#[derive(Clone, Copy, Debug, PartialEq, Eq)]
 pub struct RegisterVariableSymbol {
-    // The type of the variable.
+    /// The type of the variable.
     pub type_index: u32,
-    // The register that holds it.
+    /// The register that holds it.
     pub register: u16,
-    // The name of the variable.
+    /// The name of the variable.
     pub name: Part,
 }
 
-// A constant. S_CONSTANT, S_CONSTANT_ST, S_MANCONSTANT.
-#[derive(Clone, Copy)]
+/// A constant. S_CONSTANT, S_CONSTANT_ST, S_MANCONSTANT.
+#[derive(Clone, Copy, Debug, PartialEq, Eq)]
 pub struct ConstantSymbol {
-    // Whether the type is a metadata token: S_MANCONSTANT.
+    /// Whether the type is a metadata token: S_MANCONSTANT.
     pub managed: bool,
-    // The type of the constant, or its metadata token.
+    /// The type of the constant, or its metadata token.
     pub type_index: u32,
-    // The value of the constant.
+    /// The value of the constant.
     pub value: Variant,
-    // The name of the constant.
+    /// The name of the constant.
     pub name: Part,
 }
 
-// A type that has a name. S_UDT, S_UDT_ST, S_COBOLUDT, S_COBOLUDT_ST.
-#[derive(Clone, Copy)]
+/// A type that has a name. S_UDT, S_UDT_ST, S_COBOLUDT, S_COBOLUDT_ST.
+#[derive(Clone, Copy, Debug, PartialEq, Eq)]
 pub struct UserDefinedTypeSymbol {
-    // The type that is named.
+    /// The type that is named.
     pub type_index: u32,
-    // The name of the type.
+    /// The name of the type.
     pub name: Part,
 }
 
-// A variable that spans several registers. S_MANYREG, S_MANYREG_ST, S_MANYREG2, S_MANYREG2_ST.
-//
-// Its entries stand one after another from `first` on, the most significant register first; each is a register and a name.
-#[derive(Clone, Copy)]
+/// A variable that spans several registers. S_MANYREG, S_MANYREG_ST, S_MANYREG2, S_MANYREG2_ST.
+///
+/// Its entries stand one after another from `first` on, the most significant register first; each is a register and a name.
+#[derive(Clone, Copy, Debug, PartialEq, Eq)]
 pub struct MultiRegisterVariableSymbol {
-    // The type of the variable.
+    /// The type of the variable.
     pub type_index: u32,
-    // The number of entries.
+    /// The number of entries.
     pub count: u16,
-    // Where the first entry stands in the record.
+    /// Where the first entry stands in the record.
     pub first: usize,
 }
 
-// Data at a fixed place, such as a global variable. S_LDATA32, S_GDATA32, S_LMANDATA, S_GMANDATA, and their _ST.
-#[derive(Clone, Copy)]
+/// Data at a fixed place, such as a global variable. S_LDATA32, S_GDATA32, S_LMANDATA, S_GMANDATA, and their _ST.
+#[derive(Clone, Copy, Debug, PartialEq, Eq)]
 pub struct DataSymbol {
-    // Whether it is global: S_GDATA32, S_GMANDATA, and their _ST.
+    /// Whether it is global: S_GDATA32, S_GMANDATA, and their _ST.
     pub global: bool,
-    // Whether it is managed: S_LMANDATA, S_GMANDATA, and their _ST.
+    /// Whether it is managed: S_LMANDATA, S_GMANDATA, and their _ST.
     pub managed: bool,
-    // The type of the data.
+    /// The type of the data.
     pub type_index: u32,
-    // Where the data begins.
+    /// Where the data begins.
     pub offset: SectionOffset,
-    // The name of the variable.
+    /// The name of the variable.
     pub name: Part,
 }
 
-// A public symbol, by its mangled name. S_PUB32, S_PUB32_ST.
-#[derive(Clone, Copy)]
+/// A public symbol, by its mangled name. S_PUB32, S_PUB32_ST.
+#[derive(Clone, Copy, Debug, PartialEq, Eq)]
 pub struct PublicSymbol {
-    // What the symbol is.
+    /// What the symbol is.
     pub flags: PublicFlags,
-    // Where the symbol begins.
+    /// Where the symbol begins.
     pub offset: SectionOffset,
-    // The mangled name.
+    /// The mangled name.
     pub name: Part,
 }
 
-// A procedure, such as a function or a method; it opens a scope, but for S_LPROC32_ID. S_LPROC32, S_LPROC32_ST, S_GPROC32,
-// S_GPROC32_ST, S_LPROC32_DPC; S_LPROC32_ID, S_GPROC32_ID, S_LPROC32_DPC_ID, whose type is an id.
-#[derive(Clone, Copy)]
+/// A procedure, such as a function or a method; it opens a scope, but for S_LPROC32_ID. S_LPROC32, S_LPROC32_ST, S_GPROC32,
+/// S_GPROC32_ST, S_LPROC32_DPC; S_LPROC32_ID, S_GPROC32_ID, S_LPROC32_DPC_ID, whose type is an id.
+#[derive(Clone, Copy, Debug, PartialEq, Eq)]
 pub struct ProcedureSymbol {
-    // Whether it is global: S_GPROC32, S_GPROC32_ST, S_GPROC32_ID.
+    /// Whether it is global: S_GPROC32, S_GPROC32_ST, S_GPROC32_ID.
     pub global: bool,
-    // Whether it is a deferred procedure call: S_LPROC32_DPC, S_LPROC32_DPC_ID.
+    /// Whether it is a deferred procedure call: S_LPROC32_DPC, S_LPROC32_DPC_ID.
     pub dpc: bool,
-    // The index of the scope that encloses it.
-    pub parent: OptionU32,
-    // The index of the record that closes its scope.
+    /// The index of the scope that encloses it.
+    pub parent: Option<u32>,
+    /// The index of the record that closes its scope.
     pub end: u32,
-    // The index of the next procedure.
-    pub next: OptionU32,
-    // The length of its code in bytes.
+    /// The index of the next procedure.
+    pub next: Option<u32>,
+    /// The length of its code in bytes.
     pub len: u32,
-    // Where its body begins, behind the prologue, from its start.
+    /// Where its body begins, behind the prologue, from its start.
     pub dbg_start_offset: u32,
-    // Where its body ends, before the epilogue, from its start.
+    /// Where its body ends, before the epilogue, from its start.
     pub dbg_end_offset: u32,
-    // The type of the procedure: its parameters and what it returns.
+    /// The type of the procedure: its parameters and what it returns.
     pub type_index: u32,
-    // Where its code begins.
+    /// Where its code begins.
     pub offset: SectionOffset,
-    // How it returns and was compiled.
+    /// How it returns and was compiled.
     pub flags: ProcedureFlags,
-    // The name, not mangled.
+    /// The name, not mangled.
     pub name: Part,
 }
 
-// A variable of which each thread has its own. S_LTHREAD32, S_LTHREAD32_ST, S_GTHREAD32, S_GTHREAD32_ST.
-#[derive(Clone, Copy)]
+/// A variable of which each thread has its own. S_LTHREAD32, S_LTHREAD32_ST, S_GTHREAD32, S_GTHREAD32_ST.
+#[derive(Clone, Copy, Debug, PartialEq, Eq)]
 pub struct ThreadStorageSymbol {
-    // Whether it is global: S_GTHREAD32, S_GTHREAD32_ST.
+    /// Whether it is global: S_GTHREAD32, S_GTHREAD32_ST.
     pub global: bool,
-    // The type of the variable.
+    /// The type of the variable.
     pub type_index: u32,
-    // Where the variable begins.
+    /// Where the variable begins.
     pub offset: SectionOffset,
-    // The name of the variable.
+    /// The name of the variable.
     pub name: Part,
 }
 
-// A version of the front end or the back end, in a `CompileFlagsSymbol`.
-#[derive(Clone, Copy)]
+/// A version of the front end or the back end, in a `CompileFlagsSymbol`.
+#[derive(Clone, Copy, Debug, PartialEq, Eq)]
 pub struct CompilerVersion {
-    // The major number.
+    /// The major number.
     pub major: u16,
-    // The minor number.
+    /// The minor number.
     pub minor: u16,
-    // The build, or patch, number.
+    /// The build, or patch, number.
     pub build: u16,
-    // The number of the quick fix: S_COMPILE3 alone has one.
-    pub qfe: OptionU16,
+    /// The number of the quick fix: S_COMPILE3 alone has one.
+    pub qfe: Option<u16>,
 }
 
-// How a module was compiled. S_COMPILE2, S_COMPILE2_ST, S_COMPILE3.
-#[derive(Clone, Copy)]
+/// How a module was compiled. S_COMPILE2, S_COMPILE2_ST, S_COMPILE3.
+#[derive(Clone, Copy, Debug, PartialEq, Eq)]
 pub struct CompileFlagsSymbol {
-    // The source language, as `source_language` of crate constants reads it.
+    /// The source language, as `source_language` of crate constants reads it.
     pub language: u8,
-    // The options of the compiler.
+    /// The options of the compiler.
     pub flags: CompileFlags,
-    // The processor that it was compiled for, as `cpu_type` of crate constants reads it.
+    /// The processor that it was compiled for, as `cpu_type` of crate constants reads it.
     pub cpu_type: u16,
-    // The version of the front end.
+    /// The version of the front end.
     pub frontend_version: CompilerVersion,
-    // The version of the back end.
+    /// The version of the back end.
     pub backend_version: CompilerVersion,
-    // The name of the compiler, for display.
+    /// The name of the compiler, for display.
     pub version_string: Part,
 }
 
-// A `using namespace` directive. S_UNAMESPACE, S_UNAMESPACE_ST.
-#[derive(Clone, Copy)]
+/// A `using namespace` directive. S_UNAMESPACE, S_UNAMESPACE_ST.
+#[derive(Clone, Copy, Debug, PartialEq, Eq)]
 pub struct UsingNamespaceSymbol {
-    // The namespace that is used.
+    /// The namespace that is used.
     pub name: Part,
 }
 
-// A reference to a procedure, which may stand in another module. S_PROCREF, S_PROCREF_ST, S_LPROCREF, S_LPROCREF_ST.
-#[derive(Clone, Copy)]
+/// A reference to a procedure, which may stand in another module. S_PROCREF, S_PROCREF_ST, S_LPROCREF, S_LPROCREF_ST.
+#[derive(Clone, Copy, Debug, PartialEq, Eq)]
 pub struct ProcedureReferenceSymbol {
-    // Whether the procedure is global: S_PROCREF, S_PROCREF_ST.
+    /// Whether the procedure is global: S_PROCREF, S_PROCREF_ST.
     pub global: bool,
-    // A checksum of the name.
+    /// A checksum of the name.
     pub sum_name: u32,
-    // The index of the procedure in the stream of its module.
+    /// The index of the procedure in the stream of its module.
     pub symbol_index: u32,
-    // The module that has it, counted from 0.
-    pub module: OptionU16,
-    // The name of the procedure; none in S_PROCREF_ST and S_LPROCREF_ST.
-    pub name: OptionPart,
+    /// The module that has it, counted from 0.
+    pub module: Option<u16>,
+    /// The name of the procedure; none in S_PROCREF_ST and S_LPROCREF_ST.
+    pub name: Option<Part>,
 }
 
-// A reference to data, which may stand in another module. S_DATAREF, S_DATAREF_ST.
-#[derive(Clone, Copy)]
+/// A reference to data, which may stand in another module. S_DATAREF, S_DATAREF_ST.
+#[derive(Clone, Copy, Debug, PartialEq, Eq)]
 pub struct DataReferenceSymbol {
-    // A checksum of the name.
+    /// A checksum of the name.
     pub sum_name: u32,
-    // The index of the data in the stream of its module.
+    /// The index of the data in the stream of its module.
     pub symbol_index: u32,
-    // The module that has it, counted from 0.
-    pub module: OptionU16,
-    // The name of the data; none in S_DATAREF_ST.
-    pub name: OptionPart,
+    /// The module that has it, counted from 0.
+    pub module: Option<u16>,
+    /// The name of the data; none in S_DATAREF_ST.
+    pub name: Option<Part>,
 }
 
-// A reference to an annotation, which may stand in another module. S_ANNOTATIONREF.
-#[derive(Clone, Copy)]
+/// A reference to an annotation, which may stand in another module. S_ANNOTATIONREF.
+#[derive(Clone, Copy, Debug, PartialEq, Eq)]
 pub struct AnnotationReferenceSymbol {
-    // A checksum of the name.
+    /// A checksum of the name.
     pub sum_name: u32,
-    // The index of the annotation in the stream of its module.
+    /// The index of the annotation in the stream of its module.
     pub symbol_index: u32,
-    // The module that has it, counted from 0.
-    pub module: OptionU16,
-    // The name of the annotation.
+    /// The module that has it, counted from 0.
+    pub module: Option<u16>,
+    /// The name of the annotation.
     pub name: Part,
 }
 
-// What a `TrampolineSymbol` is for.
-#[derive(Clone, Copy)]
+/// What a `TrampolineSymbol` is for.
+#[derive(Clone, Copy, Debug, PartialEq, Eq)]
 pub enum TrampolineType {
     // Incremental linking: 0.
     Incremental,
@@ -287,123 +240,125 @@ pub enum TrampolineType {
     Unknown,
 }
 
-pub fn trampoline_type(x: u16) -> TrampolineType
-    ensures { result ≡ trampoline_of x }
-{
-    match x {
-        0 => TrampolineType::Incremental,
-        1 => TrampolineType::BranchIsland,
-        _ => TrampolineType::Unknown,
+impl From<u16> for TrampolineType {
+    ghost from_gives = { λ x kind. kind ≡ trampoline_of x };
+
+    fn from(x: u16) -> Self {
+        match x {
+            0 => TrampolineType::Incremental,
+            1 => TrampolineType::BranchIsland,
+            _ => TrampolineType::Unknown,
+        }
     }
 }
 
-// A piece of code that jumps on to another. S_TRAMPOLINE.
-#[derive(Clone, Copy)]
+/// A piece of code that jumps on to another. S_TRAMPOLINE.
+#[derive(Clone, Copy, Debug, PartialEq, Eq)]
 pub struct TrampolineSymbol {
-    // What it is for.
+    /// What it is for.
     pub tramp_type: TrampolineType,
-    // The length of its code in bytes.
+    /// The length of its code in bytes.
     pub size: u16,
-    // Where its code begins.
+    /// Where its code begins.
     pub thunk: SectionOffset,
-    // Where it jumps to.
+    /// Where it jumps to.
     pub target: SectionOffset,
 }
 
-// A symbol that the program exports. S_EXPORT.
-#[derive(Clone, Copy)]
+/// A symbol that the program exports. S_EXPORT.
+#[derive(Clone, Copy, Debug, PartialEq, Eq)]
 pub struct ExportSymbol {
-    // The ordinal that it is exported by.
+    /// The ordinal that it is exported by.
     pub ordinal: u16,
-    // What is exported, and how.
+    /// What is exported, and how.
     pub flags: ExportSymbolFlags,
-    // The name that it is exported by.
+    /// The name that it is exported by.
     pub name: Part,
 }
 
-// A local variable in optimized code. S_LOCAL.
-#[derive(Clone, Copy)]
+/// A local variable in optimized code. S_LOCAL.
+#[derive(Clone, Copy, Debug, PartialEq, Eq)]
 pub struct LocalSymbol {
-    // The type of the variable.
+    /// The type of the variable.
     pub type_index: u32,
-    // What the variable is.
+    /// What the variable is.
     pub flags: LocalVariableFlags,
-    // The name of the variable.
+    /// The name of the variable.
     pub name: Part,
 }
 
-// The build information of a module. S_BUILDINFO.
-#[derive(Clone, Copy)]
+/// The build information of a module. S_BUILDINFO.
+#[derive(Clone, Copy, Debug, PartialEq, Eq)]
 pub struct BuildInfoSymbol {
-    // The id of the record that has it.
+    /// The id of the record that has it.
     pub id: u32,
 }
 
-// A call that was replaced by the body of the function called; it opens a scope. S_INLINESITE, S_INLINESITE2.
-#[derive(Clone, Copy)]
+/// A call that was replaced by the body of the function called; it opens a scope. S_INLINESITE, S_INLINESITE2.
+#[derive(Clone, Copy, Debug, PartialEq, Eq)]
 pub struct InlineSiteSymbol {
-    // The index of the procedure or inline site that encloses it.
-    pub parent: OptionU32,
-    // The index of the record that closes its scope.
+    /// The index of the procedure or inline site that encloses it.
+    pub parent: Option<u32>,
+    /// The index of the record that closes its scope.
     pub end: u32,
-    // The id of the function called.
+    /// The id of the function called.
     pub inlinee: u32,
-    // How often the function is called: S_INLINESITE2 alone says so.
-    pub invocations: OptionU32,
-    // The binary annotations, which tell its lines; they are not decoded.
+    /// How often the function is called: S_INLINESITE2 alone says so.
+    pub invocations: Option<u32>,
+    /// The binary annotations, which tell its lines; they are not decoded.
     pub annotations: Part,
 }
 
-// A label in code. S_LABEL32, S_LABEL32_ST.
-#[derive(Clone, Copy)]
+/// A label in code. S_LABEL32, S_LABEL32_ST.
+#[derive(Clone, Copy, Debug, PartialEq, Eq)]
 pub struct LabelSymbol {
-    // Where the label stands.
+    /// Where the label stands.
     pub offset: SectionOffset,
-    // The flags of a procedure, here of the label.
+    /// The flags of a procedure, here of the label.
     pub flags: ProcedureFlags,
-    // The name of the label.
+    /// The name of the label.
     pub name: Part,
 }
 
-// A block of code; it opens a scope. S_BLOCK32, S_BLOCK32_ST.
-#[derive(Clone, Copy)]
+/// A block of code; it opens a scope. S_BLOCK32, S_BLOCK32_ST.
+#[derive(Clone, Copy, Debug, PartialEq, Eq)]
 pub struct BlockSymbol {
-    // The index of the scope that encloses it, 0 if there is none.
+    /// The index of the scope that encloses it, 0 if there is none.
     pub parent: u32,
-    // The index of the record that closes its scope.
+    /// The index of the record that closes its scope.
     pub end: u32,
-    // The length of its code in bytes.
+    /// The length of its code in bytes.
     pub len: u32,
-    // Where its code begins.
+    /// Where its code begins.
     pub offset: SectionOffset,
-    // The name of the block.
+    /// The name of the block.
     pub name: Part,
 }
 
-// A variable at an offset from the address in a register, such as %EBP + 8. S_REGREL32.
-#[derive(Clone, Copy)]
+/// A variable at an offset from the address in a register, such as %EBP + 8. S_REGREL32.
+#[derive(Clone, Copy, Debug, PartialEq, Eq)]
 pub struct RegisterRelativeSymbol {
-    // The offset.
+    /// The offset.
     pub offset: i32,
-    // The type of the variable.
+    /// The type of the variable.
     pub type_index: u32,
-    // The register.
+    /// The register.
     pub register: u16,
-    // The name of the variable.
+    /// The name of the variable.
     pub name: Part,
 }
 
-// What an adjustor thunk does before it jumps.
-#[derive(Clone, Copy)]
+/// What an adjustor thunk does before it jumps.
+#[derive(Clone, Copy, Debug, PartialEq, Eq)]
 pub struct ThunkAdjustor {
-    // What is added to `this`.
+    /// What is added to `this`.
     pub delta: u16,
-    // The name of the function that it goes on to.
+    /// The name of the function that it goes on to.
     pub target: Part,
 }
 
-// The six variants of a `ThunkSymbol`.
-#[derive(Clone, Copy)]
+/// The six variants of a `ThunkSymbol`.
+#[derive(Clone, Copy, Debug, PartialEq, Eq)]
 pub enum ThunkKind {
     // A plain thunk: 0.
     NoType,
@@ -419,44 +374,44 @@ pub enum ThunkKind {
     Unknown(u8),
 }
 
-// A thunk, a small procedure that goes on to another; it opens a scope. S_THUNK32, S_THUNK32_ST.
-#[derive(Clone, Copy)]
+/// A thunk, a small procedure that goes on to another; it opens a scope. S_THUNK32, S_THUNK32_ST.
+#[derive(Clone, Copy, Debug, PartialEq, Eq)]
 pub struct ThunkSymbol {
-    // The index of the scope that encloses it.
-    pub parent: OptionU32,
-    // The index of the record that closes its scope.
+    /// The index of the scope that encloses it.
+    pub parent: Option<u32>,
+    /// The index of the record that closes its scope.
     pub end: u32,
-    // The index of the next procedure.
-    pub next: OptionU32,
-    // Where its code begins.
+    /// The index of the next procedure.
+    pub next: Option<u32>,
+    /// Where its code begins.
     pub offset: SectionOffset,
-    // The length of its code in bytes.
+    /// The length of its code in bytes.
     pub len: u16,
-    // Which of the variants it is.
+    /// Which of the variants it is.
     pub kind: ThunkKind,
-    // The name of the thunk.
+    /// The name of the thunk.
     pub name: Part,
 }
 
-// Code of a procedure that is placed apart from it; it opens a scope. S_SEPCODE.
-#[derive(Clone, Copy)]
+/// Code of a procedure that is placed apart from it; it opens a scope. S_SEPCODE.
+#[derive(Clone, Copy, Debug, PartialEq, Eq)]
 pub struct SeparatedCodeSymbol {
-    // The index of the scope that encloses it, 0 if there is none.
+    /// The index of the scope that encloses it, 0 if there is none.
     pub parent: u32,
-    // The index of the record that closes its scope.
+    /// The index of the record that closes its scope.
     pub end: u32,
-    // The length of the code in bytes.
+    /// The length of the code in bytes.
     pub len: u32,
-    // What the code is.
+    /// What the code is.
     pub flags: SeparatedCodeFlags,
-    // Where the code begins.
+    /// Where the code begins.
     pub offset: SectionOffset,
-    // Where the code of the scope that encloses it begins.
+    /// Where the code of the scope that encloses it begins.
     pub parent_offset: SectionOffset,
 }
 
-// A typed record: one case for each class of records, in the order of pdb.
-#[derive(Clone, Copy)]
+/// A typed record: one case for each class of records, in the order of pdb.
+#[derive(Clone, Copy, Debug, PartialEq, Eq)]
 pub enum SymbolData {
     // The end of a scope, such as a procedure or a block. S_END.
     ScopeEnd,
@@ -514,11 +469,33 @@ pub enum SymbolData {
     SeparatedCode(SeparatedCodeSymbol),
 }
 
-// What decoding answers.
-#[derive(Clone, Copy)]
-pub enum Decoded {
-    // The record, and the bytes that it took.
-    Record(SymbolData, usize),
-    // Why the record cannot be read.
-    Refused(Refusal),
+impl SymbolData {
+    /// The name of the record; none for registers, register lists and compile flags, whatever name they hold.
+    pub fn name(&self) -> Option<Part>
+        ensures { result ≡ name_in self.now }
+    {
+        match self {
+            SymbolData::ObjName(data) => Some(data.name),
+            SymbolData::Constant(data) => Some(data.name),
+            SymbolData::UserDefinedType(data) => Some(data.name),
+            SymbolData::Data(data) => Some(data.name),
+            SymbolData::Public(data) => Some(data.name),
+            SymbolData::Procedure(data) => Some(data.name),
+            SymbolData::ThreadStorage(data) => Some(data.name),
+            SymbolData::UsingNamespace(data) => Some(data.name),
+            SymbolData::ProcedureReference(data) => data.name,
+            SymbolData::DataReference(data) => data.name,
+            SymbolData::AnnotationReference(data) => Some(data.name),
+            SymbolData::Export(data) => Some(data.name),
+            SymbolData::Local(data) => Some(data.name),
+            SymbolData::Label(data) => Some(data.name),
+            SymbolData::Block(data) => Some(data.name),
+            SymbolData::RegisterRelative(data) => Some(data.name),
+            SymbolData::Thunk(data) => Some(data.name),
+            _ => None,
+        }
+    }
 }
+
+/// A typed record and the position behind it, or why there is none.
+pub type Decoded = Result<(SymbolData, usize), Refusal>;

@@ -1,3 +1,1 @@
-pub mod Lists
-pub mod Entries
-pub mod Numbers
+pub mod Skips

@@ -6,7 +6,7 @@ use Rattle.names.specs.Name.{symbol_name}
 use Rattle.registers.specs.declared.entry.RegisterEntry.{RegisterEntry}
 
 -- an entry of a list
-unfoldable pub entry : ℕ → Reader RegisterEntry
+abbrev pub entry : ℕ → Reader RegisterEntry
 entry kind = do
   register ← u16
   name ← symbol_name kind
@@ -18,5 +18,5 @@ skip kind zero = done tt
 skip kind (suc n) = entry kind >>= λ _. skip kind n
 
 -- the entry k, counted from 0, of a list whose first entry stands here
-unfoldable pub entry_at : ℕ → ℕ → Reader RegisterEntry
+abbrev pub entry_at : ℕ → ℕ → Reader RegisterEntry
 entry_at kind k = skip kind k >>= λ _. entry kind

@@ -1,76 +1,103 @@
-// Our answers. Records, streams and their scopes are asked through the functions that C calls.
-use super::parts::{FREE, Words, words_of};
+// Our answers in words, as the oracle writes them: the number of the refusal, or 0, and what was written to the lent words. Records,
+// streams and their scopes are asked through the functions that C calls.
+use common::Refusal;
+use common::buffer::ParseBuffer;
+use constants::class_number;
+use constants::compiler::{cpu_type, source_language};
+use constants::kind::{ends_scope, starts_scope};
+use mitrelilac::{
+    mitrelilac_check, mitrelilac_climb, mitrelilac_decode, mitrelilac_jump, mitrelilac_kind,
+    mitrelilac_name, mitrelilac_register_entry, mitrelilac_step, mitrelilac_walk,
+};
+use names::{Part, parse_cstring, parse_u8_pascal_string};
+use record_words::field::{variant_number, variant_value};
+use std::convert::AsSlice;
+use variant::{Variant, parse_variant};
+use words::signed_word;
 
-// The words of a call that was lent so many. (A callee that takes the array knows its length.)
-fn words3(number: u32, out: &[u64; 3]) -> Words {
-    words_of(number, out)
+/// What lent words hold before a call: one that is not the answer's must hold it afterwards.
+pub const FREE: u64 = 0xfeed_fedd_feed_fedd;
+
+/// The most words of an answer.
+pub const WORDS: usize = 68;
+
+/// An answer: the number that was returned, and the words that were written.
+pub type Words = [u64; WORDS];
+
+/// The words of a call that returned this number and wrote these.
+fn words_of(number: u32, written: &[u64]) -> Words {
+    let mut words = [FREE; WORDS];
+    words[0] = number as u64;
+    for (word, x) in words[1..].iter_mut().zip(written) {
+        *word = *x;
+    }
+    words
 }
 
-fn words5(number: u32, out: &[u64; 5]) -> Words {
-    words_of(number, out)
+/// The words of a call that these are lent to.
+fn called<A: AsSlice<u64> + Drop, F: FnOnce(&mut A) -> u32>(mut out: A, call: F) -> Words
+    requires { F.IsAlwaysCallable call }
+{
+    let number = call(&mut out);
+    words_of(number, out.as_slice())
 }
 
-fn words6(number: u32, out: &[u64; 6]) -> Words {
-    words_of(number, out)
+/// The words of what was read, or of the refusal.
+fn told<W: AsSlice<u64> + Drop>(read: Result<W, Refusal>) -> Words {
+    match read {
+        Ok(written) => words_of(0, written.as_slice()),
+        Err(e) => words_of(e.number() as u32, &[e.position() as u64, e.detail()]),
+    }
 }
 
-fn words24(number: u32, out: &[u64; 24]) -> Words {
-    words_of(number, out)
+/// A name's part, and the position after it.
+fn name(p: Part, next: usize) -> [u64; 3] {
+    [p.start as u64, p.len as u64, next as u64]
 }
 
-fn words66(number: u32, out: &[u64; 66]) -> Words {
-    words_of(number, out)
+/// The variant's place in the Rust's enum, its value, and the position after it.
+fn numeric(v: Variant, next: usize) -> [u64; 3] {
+    [variant_number(v), variant_value(v), next as u64]
 }
 
-fn step(s: &[u8], at: usize) -> Words {
-    let mut out = [FREE; 5];
-    let number = mitrelilac::mitrelilac_step(s, at, &mut out);
-    words5(number, &out)
+/// The class of a kind, and whether it opens or closes a scope.
+fn kind(k: u16) -> [u64; 3] {
+    let rec = k.to_le_bytes();
+    [
+        class_number(k) as u64,
+        starts_scope(&rec) as u64,
+        ends_scope(&rec) as u64,
+    ]
 }
 
-fn decode(s: &[u8]) -> Words {
-    let mut out = [FREE; 24];
-    let number = mitrelilac::mitrelilac_decode(s, &mut out);
-    words24(number, &out)
-}
-
-// Of a record: its name (34), an entry of its list (35), or its kind.
-fn about_record(op: u64, s: &[u8], k: usize) -> Words {
-    let mut out = [FREE; 3];
-    let number = match op {
-        34 => mitrelilac::mitrelilac_name(s, &mut out),
-        35 => mitrelilac::mitrelilac_register_entry(s, k, &mut out),
-        _ => mitrelilac::mitrelilac_kind(s, &mut out),
-    };
-    words3(number, &out)
-}
-
-fn check(s: &[u8], start: usize) -> Words {
-    let mut out = [FREE; 6];
-    let number = mitrelilac::mitrelilac_check(s, start, &mut out);
-    words6(number, &out)
-}
-
-// The enclosing scopes, by walking (41), jumping (42) or climbing.
-fn scopes(op: u64, s: &[u8], start: usize, i: usize) -> Words {
-    let mut out = [FREE; 66];
-    let number = match op {
-        41 => mitrelilac::mitrelilac_walk(s, start, i, &mut out),
-        42 => mitrelilac::mitrelilac_jump(s, start, i, &mut out),
-        _ => mitrelilac::mitrelilac_climb(s, i, &mut out),
-    };
-    words66(number, &out)
-}
-
+/// The answer to a case. An operation that we do not have is answered by a number that no refusal has.
 pub fn answer(op: u64, arg: u64, start: u64, s: &[u8]) -> Words {
     let at = arg as usize;
     let from = start as usize;
+    let mut buf = ParseBuffer { bytes: s, pos: at };
     match op {
-        32 => step(s, at),
-        33 => decode(s),
-        34..=36 => about_record(op, s, at),
-        40 => check(s, from),
-        41..=43 => scopes(op, s, from, at),
-        _ => super::parts::answer(op, arg, s),
+        1 => told(buf.parse::<u8>().map(|x| [x as u64, buf.pos as u64])),
+        2 => told(buf.parse::<u16>().map(|x| [x as u64, buf.pos as u64])),
+        3 => told(buf.parse::<u32>().map(|x| [x as u64, buf.pos as u64])),
+        4 => told(buf.parse::<u64>().map(|x| [x, buf.pos as u64])),
+        5 => told(buf.parse::<i16>().map(|x| [signed_word(x), buf.pos as u64])),
+        6 => told(buf.parse::<i32>().map(|x| [signed_word(x), buf.pos as u64])),
+        7 => told(buf.parse::<i64>().map(|x| [signed_word(x), buf.pos as u64])),
+        8 => told(parse_cstring(&mut buf).map(|p| name(p, buf.pos))),
+        9 => told(parse_u8_pascal_string(&mut buf).map(|p| name(p, buf.pos))),
+        10 => told(parse_variant(&mut buf).map(|v| numeric(v, buf.pos))),
+        16 => words_of(0, &kind((arg % 0x10000) as u16)),
+        17 => words_of(0, &[cpu_type((arg % 0x10000) as u16) as u64]),
+        18 => words_of(0, &[source_language((arg % 0x100) as u8) as u64]),
+        32 => called([FREE; 5], |out| mitrelilac_step(s, at, out)),
+        33 => called([FREE; 24], |out| mitrelilac_decode(s, out)),
+        34 => called([FREE; 3], |out| mitrelilac_name(s, out)),
+        35 => called([FREE; 3], |out| mitrelilac_register_entry(s, at, out)),
+        36 => called([FREE; 3], |out| mitrelilac_kind(s, out)),
+        40 => called([FREE; 6], |out| mitrelilac_check(s, from, out)),
+        41 => called([FREE; 66], |out| mitrelilac_walk(s, from, at, out)),
+        42 => called([FREE; 66], |out| mitrelilac_jump(s, from, at, out)),
+        43 => called([FREE; 66], |out| mitrelilac_climb(s, at, out)),
+        _ => words_of(u32::MAX, &[0]),
     }
 }

@@ -5,49 +5,37 @@
 
 mod answer;
 mod list;
-mod parts;
-
-ghost use Rattle.std.specs.Prelude.{◌≡◌, length};
 
 use list::Tally;
 use std::io::{self, Read};
 
-// A block of the list. The `ensures` gives only the length, which lending it as a slice needs.
-fn block_room() -> [u8; 262144]
-    ensures { 262144 ≡ length result }
-{
-    [0; 262144]
-}
+/// How long the blocks of the list are.
+const BLOCK: usize = 262144;
 
-// Replays one block of the list; an input that ends, ends the list.
-fn replay_block<R: Read>(reader: &mut R, tally: Tally) -> io::Result<Tally> {
-    let mut block = block_room();
+/// Replays the block that the input goes on with, and answers whether there was one.
+fn replay_block<R: Read>(reader: &mut R, tally: &mut Tally) -> io::Result<bool> {
+    let mut block = [0u8; BLOCK];
     let n = input::read_full(reader, &mut block)?;
-    if n == 0 {
-        return Ok(tally.ended());
-    }
-    Ok(list::replay(&block[..n], tally))
-}
-
-// No list is so long that the turns run out; they only show that the loop ends.
-fn replay_all<R: Read>(reader: &mut R) -> io::Result<Tally> {
-    let mut tally = Tally::new();
-    for _ in 0..u64::MAX {
-        tally = replay_block(reader, tally)?;
-        if tally.over {
-            break;
-        }
-    }
-    Ok(tally)
+    list::replay(&block[..n], tally);
+    Ok(0 < n)
 }
 
 fn main(rt: HostRuntime) -> io::Result<()> {
-    let tally = replay_all(&mut rt.reader())?;
-    let cases = tally.cases;
-    let differences = tally.differences;
+    let mut reader = rt.reader();
+    let mut tally = Tally::default();
+    // No list is so long that the turns run out; they only show that the loop ends.
+    for _ in 0..u64::MAX {
+        if !replay_block(&mut reader, &mut tally)? {
+            break;
+        }
+    }
+    let Tally {
+        cases,
+        differences,
+        first,
+    } = tally;
     print!(rt; "{cases} cases, {differences} differences")?;
-    if 0 < differences {
-        let first = tally.first;
+    if let Some(first) = first {
         print!(rt; ", the first in case {first}")?;
     }
     println!(rt)

@@ -1,1 +1,1 @@
-mod Chains
+mod Stores

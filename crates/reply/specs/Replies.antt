@@ -1,28 +1,28 @@
 -- The reply to each answer of the operations of document 01.
-use Rattle.std.specs.Prelude.{ℕ, [], ◌∷◌}
-use Rattle.common.specs.Reader.{Read, value, refused}
+use Rattle.std.specs.Prelude.{ℕ, List, [], ◌∷◌, length, Option, None, Some, Result}
+use Rattle.common.specs.Reader.{Read}
+use Rattle.common.specs.declared.Refusal.{Refusal}
 use Rattle.constants.specs.Kind.{starts_scope, ends_scope}
-use Rattle.records.specs.declared.OptionPart.TheVariants.{None, Some}
+use Rattle.names.specs.declared.Part.{Part}
 use Rattle.records.specs.declared.SymbolData.{SymbolData}
 use Rattle.record_words.specs.Record.{record_words}
-use Rattle.symbol.specs.declared.register_entry.Listed.{Listed}
-use Rattle.symbol.specs.declared.register_entry.Listed.TheVariants as E
-use Rattle.symbol.specs.declared.name.Named.{Named}
-use Rattle.symbol.specs.declared.name.Named.TheVariants as M
+use Rattle.registers.specs.declared.entry.RegisterEntry.{RegisterEntry}
 use Rattle.iter.specs.declared.Next.{Next}
 use Rattle.iter.specs.declared.Next.TheVariants as N
-use Rattle.check_nesting.specs.declared.Checked.{Checked}
-use Rattle.check_nesting.specs.declared.Checked.TheVariants as C
-use Rattle.chain.specs.declared.finding.Finding.{Finding}
+use Rattle.check_nesting.specs.declared.Counts.{Counts}
+use Rattle.chain.specs.Chain.{places}
+use Rattle.chain.specs.declared.Found.{Found}
 use Rattle.words.specs.Word.{truth}
-use Rattle.reply.specs.Reply.{Reply, answers, refusal_reply, chain_reply}
+use Rattle.reply.specs.Reply.{Reply, answers, reply_by}
 
 -- Step: "End, with the position"; "index (position of the length field), the record's bytes (kind first), next position". The bytes are
 -- given as where they start and how many they are.
-abbrev pub step_reply : Next → Reply
-step_reply (N.End position) = answers (0 ∷ position ∷ [])
-step_reply (N.Record kind index start len next) = answers (1 ∷ index ∷ start ∷ len ∷ next ∷ [])
-step_reply (N.Refused e) = refusal_reply e
+abbrev pub step_words : Next → List ℕ
+step_words (N.End position) = 0 ∷ position ∷ []
+step_words (N.Record kind index start len next) = 1 ∷ index ∷ start ∷ len ∷ next ∷ []
+
+abbrev pub step_reply : Result Next Refusal → Reply
+step_reply = reply_by step_words
 
 -- "Kind, opener, closer never refuse, at any length"
 abbrev pub kind_reply : ℕ → Reply
@@ -30,25 +30,31 @@ kind_reply kind = answers (kind ∷ truth (starts_scope kind) ∷ truth (ends_sc
 
 -- Decode: "typed record, bytes consumed", and decode's refusals
 abbrev pub decode_reply : Read SymbolData → Reply
-decode_reply (value d consumed) = answers (record_words d consumed)
-decode_reply (refused e) = refusal_reply e
+decode_reply = reply_by (λ r. record_words r.0 r.1)
 
 -- Name: "whether there is a name, and the part of the lent record that it is; the empty part where there is none"
-abbrev pub name_reply : Named → Reply
-name_reply (M.Answer (Some p)) = answers (1 ∷ p.start ∷ p.len ∷ [])
-name_reply (M.Answer None) = answers (0 ∷ 0 ∷ 0 ∷ [])
-name_reply (M.Refused e) = refusal_reply e
+abbrev pub name_words : Option Part → List ℕ
+name_words (Some p) = 1 ∷ p.start ∷ p.len ∷ []
+name_words None = 0 ∷ 0 ∷ 0 ∷ []
+
+abbrev pub name_reply : Result (Option Part) Refusal → Reply
+name_reply = reply_by name_words
 
 -- Register entry: "the register and the part that is its name"
-abbrev pub entry_reply : Listed → Reply
-entry_reply (E.Answer x) = answers (x.register ∷ x.name.start ∷ x.name.len ∷ [])
-entry_reply (E.Refused e) = refusal_reply e
+abbrev pub entry_reply : Result RegisterEntry Refusal → Reply
+entry_reply = reply_by (λ x. x.register ∷ x.name.start ∷ x.name.len ∷ [])
 
 -- Check: records yielded and their bytes, fillers and theirs, openers, deepest nesting
-abbrev pub check_reply : Checked → Reply
-check_reply (C.Good n) = answers (n.records ∷ n.bytes ∷ n.fillers ∷ n.filler_bytes ∷ n.openers ∷ n.deepest ∷ [])
-check_reply (C.Refused e) = refusal_reply e
+abbrev pub check_reply : Result Counts Refusal → Reply
+check_reply = reply_by (λ n. n.records ∷ n.bytes ∷ n.fillers ∷ n.filler_bytes ∷ n.openers ∷ n.deepest ∷ [])
+
+-- "A chain holds up to 64 positions and a count; unused places are 0": the count, and the 64 places
+abbrev pub chain_words : List ℕ → List ℕ
+chain_words chain = length chain ∷ places chain
 
 -- Walk and jump with the number of records read, climb with that of links
-abbrev pub finding_reply : Finding → Reply
-finding_reply f = chain_reply f.out f.count f.chain
+abbrev pub found_words : Found → List ℕ
+found_words f = f.count ∷ chain_words f.chain
+
+abbrev pub finding_reply : Result Found Refusal → Reply
+finding_reply = reply_by found_words

@@ -1,9 +1,7 @@
 -- How every exported function replies: by the number that it returns and by the words that it writes to those lent to it.
-use Rattle.std.specs.Prelude.{ℕ, ◌≡◌, List, [], ◌∷◌}
+use Rattle.std.specs.Prelude.{ℕ, ◌≡◌, List, [], ◌∷◌, Result, Ok, Err}
+use Rattle.common.specs.Refused.{refusal_number, refusal_position, refusal_detail}
 use Rattle.common.specs.declared.Refusal.{Refusal}
-use Rattle.chain.specs.declared.Chain.{Chain}
-use Rattle.chain.specs.declared.finding.Outcome.{Outcome}
-use Rattle.chain.specs.declared.finding.Outcome.TheVariants.{Answer, Refused}
 use Rattle.words.specs.Written.{written}
 
 pub record Reply : Type 0 where
@@ -21,10 +19,9 @@ answers words = record { number = 0; words = words }
 
 -- A refusal carries its number, its position (0 where none is said), for 3 the kind, for 4 the prefix, and no more.
 abbrev pub refusal_reply : Refusal → Reply
-refusal_reply e = record { number = e.number; words = e.position ∷ e.detail ∷ [] }
+refusal_reply e = record { number = refusal_number e; words = refusal_position e ∷ refusal_detail e ∷ [] }
 
--- "A chain holds up to 64 positions and a count; unused places are 0": the number of records read or of links climbed, the count, and
--- the 64 places
-abbrev pub chain_reply : Outcome → ℕ → Chain → Reply
-chain_reply Answer count chain = answers (count ∷ chain.depth ∷ chain.at)
-chain_reply (Refused e) count chain = refusal_reply e
+-- the reply to what a call finds: the words of its answer, or its refusal
+abbrev pub reply_by : {A : Type 0} → (A → List ℕ) → Result A Refusal → Reply
+reply_by words (Ok a) = answers (words a)
+reply_by words (Err e) = refusal_reply e

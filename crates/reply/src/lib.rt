@@ -1,50 +1,123 @@
 // Replies to a caller that lends words: the number that a call returns, and the words that it writes from place 0 on. The places behind
-// them stay as they were. Here refusals and chains; `operation` has the answers of step, name, register entry and check.
+// them stay as they were. A part of a record is told by where it starts and how long it is.
 #![tactic(auto)]
 
-pub mod operation;
-
-ghost use Rattle.std.specs.Prelude.{◌≡◌, ◌∷◌, ◌≤◌, length};
-ghost use Rattle.reply.specs.Reply.{Replied, refusal_reply, chain_reply};
+ghost use Rattle.std.specs.Prelude.{◌≡◌, ◌≤◌, length};
 ghost use Rattle.words.specs.Written.{written};
+ghost use Rattle.reply.specs.Reply.{Replied, answers, refusal_reply};
+ghost use Rattle.reply.specs.Replies.{step_reply, name_reply, entry_reply, check_reply, found_words, finding_reply};
 
-use chain::Chain;
-use chain::finding::Outcome;
+use chain::Found;
+use check_nesting::Counts;
 use common::Refusal;
+use iter::Next;
+use names::Part;
+use registers::entry::RegisterEntry;
+use words::put;
 
-// A refusal: its position and its detail.
+/// A refusal: its position and its detail.
 pub fn refuse(out: &mut [u64], e: Refusal) -> u32
     requires { 2 ≤ length out.old }
     ensures { Replied (refusal_reply e) result out.old out.new }
 {
-    words::put::put2(out, e.position as u64, e.detail);
-    e.number as u32
+    put(out, [e.position() as u64, e.detail()]);
+    e.number() as u32
 }
 
-// A count, and the depth and the 64 places of a chain. The places are lent and not passed by value, so that their number is known.
-fn put_chain(out: &mut [u64], count: usize, depth: usize, at: &[u32])
-    requires at_len { length at.now ≡ 64 }
-    requires in_bounds { 66 ≤ length out.old }
-    ensures { out.new ≡ written (count ∷ depth ∷ at.now) out.old }
+/// An answer: its words.
+pub fn answer<const N: usize>(out: &mut [u64], words: [u64; N]) -> u32
+    requires { N ≤ length out.old }
+    ensures { Replied (answers words.entry) result out.old out.new }
 {
-    words::put::put2(out, count as u64, depth as u64);
-    let mut k: usize = 0;
-    while k < 64 {
-        out[2 + k] = at[k] as u64;
-        k = k + 1;
+    put(out, words);
+    0
+}
+
+/// End: 0, position. A record: 1, index, its bytes, next position.
+pub fn reply_step(step: Result<Next, Refusal>, out: &mut [u64; 5]) -> u32
+    ensures { Replied (step_reply step) result out.old out.new }
+{
+    match step {
+        Ok(Next::End(at)) => answer(out, [0, at as u64]),
+        Ok(
+            Next::Record {
+                index,
+                start,
+                len,
+                next,
+                ..
+            },
+        ) => answer(
+            out,
+            [1, index as u64, start as u64, len as u64, next as u64],
+        ),
+        Err(e) => refuse(out, e),
     }
 }
 
-// The answer of a finder: its count, of records read or of links, and its chain.
-pub fn reply_chain(found: Outcome, count: usize, chain: Chain, out: &mut [u64; 66]) -> u32
-    ensures { Replied (chain_reply found count chain) result out.old out.new }
+/// 1 and the name; 0, 0, 0 where there is none.
+pub fn reply_name(name: Result<Option<Part>, Refusal>, out: &mut [u64; 3]) -> u32
+    ensures { Replied (name_reply name) result out.old out.new }
+{
+    match name {
+        Ok(Some(p)) => answer(out, [1, p.start as u64, p.len as u64]),
+        Ok(None) => answer(out, [0, 0, 0]),
+        Err(e) => refuse(out, e),
+    }
+}
+
+/// The register and its name.
+pub fn reply_entry(entry: Result<RegisterEntry, Refusal>, out: &mut [u64; 3]) -> u32
+    ensures { Replied (entry_reply entry) result out.old out.new }
+{
+    match entry {
+        Ok(x) => answer(
+            out,
+            [x.register as u64, x.name.start as u64, x.name.len as u64],
+        ),
+        Err(e) => refuse(out, e),
+    }
+}
+
+/// Records read and their bytes, fillers passed over and theirs, openers, deepest nesting.
+pub fn reply_check(counts: Result<Counts, Refusal>, out: &mut [u64; 6]) -> u32
+    ensures { Replied (check_reply counts) result out.old out.new }
+{
+    match counts {
+        Ok(n) => answer(
+            out,
+            [
+                n.records as u64,
+                n.bytes as u64,
+                n.fillers as u64,
+                n.filler_bytes as u64,
+                n.openers as u64,
+                n.deepest as u64,
+            ],
+        ),
+        Err(e) => refuse(out, e),
+    }
+}
+
+/// The count of a finder, how many positions its chain has, and the 64 places.
+fn put_found(f: Found, out: &mut [u64; 66])
+    ensures { out.new ≡ written (found_words f) out.old }
+{
+    put(out, [f.count as u64, f.chain.len() as u64]);
+    for (k, place) in f.chain.places().iter().enumerate() {
+        out[2 + k] = *place as u64;
+    }
+}
+
+/// The answer of a finder.
+pub fn reply_chain(found: Result<Found, Refusal>, out: &mut [u64; 66]) -> u32
+    ensures { Replied (finding_reply found) result out.old out.new }
 {
     match found {
-        Outcome::Answer => {
-            let depth = chain.depth;
-            put_chain(out, count, depth, &chain.at);
-            return 0;
+        Ok(f) => {
+            put_found(f, out);
+            0
         }
-        Outcome::Refused(e) => return refuse(out, e),
+        Err(e) => refuse(out, e),
     }
 }

@@ -1,6 +1,7 @@
 -- Decode (document 01, "Decode").
-use Rattle.std.specs.Prelude.{ℕ, List, cond, length, ltb}
-use Rattle.common.specs.Reader.{Read, refused, refusal, Reader, ◌>>=◌, refuse, u16}
+use Rattle.std.specs.Prelude.{ℕ, List, cond, length, ltb, Err}
+use Rattle.common.specs.Reader.{Read, Reader, ◌>>=◌, refuse, u16}
+use Rattle.common.specs.declared.Refusal.TheVariants.{UnimplementedKind, TooLong}
 use Rattle.constants.specs.Kind.{class_of}
 use Rattle.constants.specs.declared.Class.{Class}
 use Rattle.constants.specs.declared.Class.TheVariants.{Unknown, ScopeEnd, ObjName, RegisterVariable, Constant, UserDefinedType, MultiRegisterVariable, Data, Public, Procedure, ThreadStorage, CompileFlags, UsingNamespace, ProcedureReference, DataReference, AnnotationReference, Trampoline, Export, Local, BuildInfo, InlineSite, InlineSiteEnd, ProcedureEnd, Label, Block, RegisterRelative, Thunk, SeparatedCode}
@@ -20,8 +21,8 @@ use Rattle.code.specs.Thunk.{thunk}
 use Rattle.code.specs.End.{scope_end, inline_site_end, procedure_end}
 
 -- the layout of each class; 3 with the kind where there is none
-unfoldable pub layout : Class → ℕ → Reader SymbolData
-layout Unknown kind = refuse (refusal 3 0 kind)
+abbrev pub layout : Class → ℕ → Reader SymbolData
+layout Unknown kind = refuse (UnimplementedKind kind)
 layout ScopeEnd kind = scope_end
 layout ObjName kind = obj_name kind
 layout RegisterVariable kind = register_variable kind
@@ -50,9 +51,9 @@ layout RegisterRelative kind = register_relative kind
 layout Thunk kind = thunk kind
 layout SeparatedCode kind = separated_code
 
-unfoldable pub by_kind : ℕ → Reader SymbolData
+abbrev pub by_kind : ℕ → Reader SymbolData
 by_kind kind = layout (class_of kind) kind
 
 -- 5 above 65,535 bytes; 1 below 2 bytes; 3; then 1 or 4 at the first field, in layout order, that can't be read
 unfoldable pub decode : List ℕ → Read SymbolData
-decode s = cond (ltb 65535 (length s)) (refused (refusal 5 0 0)) ((u16 >>= by_kind) s 0)
+decode s = cond (ltb 65535 (length s)) (Err TooLong) ((u16 >>= by_kind) s 0)

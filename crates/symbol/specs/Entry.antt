@@ -1,15 +1,16 @@
 -- Register entry (document 01, "Register entry"): decode's refusals; 14 if the record is no register list or k is not below its count; else the
 -- register and the part that is its name.
-use Rattle.std.specs.Prelude.{ℕ, List, cond, ltb}
-use Rattle.common.specs.Reader.{Read, value, refused, refusal}
+use Rattle.std.specs.Prelude.{ℕ, List, cond, ltb, Result, Ok, Err}
+use Rattle.common.specs.Reader.{Read}
+use Rattle.common.specs.declared.Refusal.{Refusal}
+use Rattle.common.specs.declared.Refusal.TheVariants.{NothingThere}
 use Rattle.constants.specs.Raw.{raw_kind}
 use Rattle.records.specs.declared.SymbolData.{SymbolData}
 use Rattle.records.specs.declared.SymbolData.TheVariants as D
 use Rattle.registers.specs.Entries.{entry_at}
 use Rattle.registers.specs.declared.entry.RegisterEntry.{RegisterEntry}
-use Rattle.symbol.specs.declared.register_entry.Listed.{Listed}
-use Rattle.symbol.specs.declared.register_entry.Listed.TheVariants as L
 use Rattle.symbol.specs.Decode.{decode}
+use Rattle.symbol.specs.Name.{answered}
 
 -- the entries of a record: how many, and where the first stands
 pub record Entries : Type 0 where
@@ -49,18 +50,14 @@ entries_in (D.RegisterRelative x) = none
 entries_in (D.Thunk x) = none
 entries_in (D.SeparatedCode x) = none
 
-abbrev pub listed : Read RegisterEntry → Listed
-listed (value entry to) = L.Answer entry
-listed (refused e) = L.Refused e
-
 -- the entry k of those that a record of a kind has
-unfoldable pub entry_among : List ℕ → ℕ → ℕ → Entries → Listed
+abbrev pub entry_among : List ℕ → ℕ → ℕ → Entries → Result RegisterEntry Refusal
 entry_among s kind k entries =
-    cond (ltb k entries.count) (listed (entry_at kind k s entries.first)) (L.Refused (refusal 14 0 0))
+    cond (ltb k entries.count) (answered (λ entry. entry) (entry_at kind k s entries.first)) (Err NothingThere)
 
-abbrev pub entry_by : List ℕ → ℕ → Read SymbolData → Listed
-entry_by s k (value d consumed) = entry_among s (raw_kind s) k (entries_in d)
-entry_by s k (refused e) = L.Refused e
+abbrev pub entry_by : List ℕ → ℕ → Read SymbolData → Result RegisterEntry Refusal
+entry_by s k (Ok r) = entry_among s (raw_kind s) k (entries_in r.0)
+entry_by s k (Err e) = Err e
 
-unfoldable pub register_entry : List ℕ → ℕ → Listed
+unfoldable pub register_entry : List ℕ → ℕ → Result RegisterEntry Refusal
 register_entry s k = entry_by s k (decode s)

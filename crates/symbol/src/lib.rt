@@ -1,76 +1,70 @@
 // A record decoded to the typed record of its kind (pdb's Symbol::parse).
-#![tactic(auto)]
+#![tactic(auto, unfolding(crate::specs::Decode::decode))]
 
 pub mod name;
 pub mod register_entry;
 
 ghost use Rattle.std.specs.Prelude.{◌≡◌};
-ghost use Rattle.common.specs.Reader.{refused, refusal};
-ghost use Rattle.constants.specs.Kind.{class_of};
-ghost use Rattle.records.specs.Answer.{decoded_of};
-ghost use Rattle.symbol.specs.Decode.{layout, decode};
+ghost use Rattle.symbol.specs.Decode.{by_kind, decode};
 
+use code::{block, inline_site, procedure, thunk};
 use common::Refusal;
+use common::buffer::ParseBuffer;
+use compiland::{compile, linkage, object, reference};
 use constants::Class;
-use records::Decoded;
+use data::{local, storage, variable};
+use records::{Decoded, SymbolData};
 
-// The longest record that is decoded.
+/// The longest record that is decoded.
 pub const MAX_RECORD: usize = 0xffff;
 
-fn unimplemented(kind: u16) -> Decoded
-    ensures { decoded_of result ≡ refused (refusal 3 0 kind) }
-{
-    Decoded::Refused(Refusal::of(Refusal::UNIMPLEMENTED_KIND, kind))
-}
-
-// Decodes a record whose kind was read, by the layout of its class.
-fn parse_by_kind(s: &[u8], kind: u16) -> Decoded
-    ensures { decoded_of result ≡ layout (class_of kind) kind s.now 2 }
+/// Reads what stands behind the kind, by the layout of its class. The arms return, and the function is not inlined: where arms meet, a
+/// record is copied in pieces.
+#[inline(never)]
+fn parse_by_kind(buf: ParseBuffer, kind: u16) -> Decoded
+    ensures { result ≡ by_kind kind buf.entry.bytes.now buf.entry.pos }
 {
     match constants::class_of(kind) {
-        Class::Unknown => return unimplemented(kind),
-        Class::ScopeEnd => return code::end::scope_end(),
-        Class::ObjName => return compiland::object::parse_obj_name(s, kind),
-        Class::RegisterVariable => return data::variable::parse_register_variable(s, kind),
-        Class::Constant => return data::variable::parse_constant(s, kind),
-        Class::UserDefinedType => return data::variable::parse_user_defined_type(s, kind),
-        Class::MultiRegisterVariable => return registers::parse_multi_register_variable(s, kind),
-        Class::Data => return data::storage::parse_data(s, kind),
-        Class::Public => return compiland::linkage::parse_public(s, kind),
-        Class::Procedure => return code::procedure::parse_procedure(s, kind),
-        Class::ThreadStorage => return data::storage::parse_thread_storage(s, kind),
-        Class::CompileFlags => return compiland::compile::parse_compile_flags(s, kind),
-        Class::UsingNamespace => return compiland::object::parse_using_namespace(s, kind),
-        Class::ProcedureReference => return compiland::reference::parse_procedure_reference(
-            s, kind,
-        ),
-        Class::DataReference => return compiland::reference::parse_data_reference(s, kind),
-        Class::AnnotationReference => return compiland::reference::parse_annotation_reference(
-            s, kind,
-        ),
-        Class::Trampoline => return compiland::linkage::parse_trampoline(s),
-        Class::Export => return compiland::linkage::parse_export(s, kind),
-        Class::Local => return data::local::parse_local(s, kind),
-        Class::BuildInfo => return compiland::object::parse_build_info(s),
-        Class::InlineSite => return code::inline_site::parse_inline_site(s, kind),
-        Class::InlineSiteEnd => return code::end::inline_site_end(),
-        Class::ProcedureEnd => return code::end::procedure_end(),
-        Class::Label => return code::procedure::parse_label(s, kind),
-        Class::Block => return code::block::parse_block(s, kind),
-        Class::RegisterRelative => return data::local::parse_register_relative(s, kind),
-        Class::Thunk => return code::thunk::parse_thunk(s, kind),
-        Class::SeparatedCode => return code::block::parse_separated_code(s),
+        Class::Unknown => return Err(Refusal::UnimplementedKind(kind)),
+        Class::ScopeEnd => return Ok((SymbolData::ScopeEnd, buf.pos)),
+        Class::ObjName => return object::parse_obj_name(buf, kind),
+        Class::RegisterVariable => return variable::parse_register_variable(buf, kind),
+        Class::Constant => return variable::parse_constant(buf, kind),
+        Class::UserDefinedType => return variable::parse_user_defined_type(buf, kind),
+        Class::MultiRegisterVariable => return registers::parse_multi_register_variable(buf, kind),
+        Class::Data => return storage::parse_data(buf, kind),
+        Class::Public => return linkage::parse_public(buf, kind),
+        Class::Procedure => return procedure::parse_procedure(buf, kind),
+        Class::ThreadStorage => return storage::parse_thread_storage(buf, kind),
+        Class::CompileFlags => return compile::parse_compile_flags(buf, kind),
+        Class::UsingNamespace => return object::parse_using_namespace(buf, kind),
+        Class::ProcedureReference => return reference::parse_procedure_reference(buf, kind),
+        Class::DataReference => return reference::parse_data_reference(buf, kind),
+        Class::AnnotationReference => return reference::parse_annotation_reference(buf, kind),
+        Class::Trampoline => return linkage::parse_trampoline(buf),
+        Class::Export => return linkage::parse_export(buf, kind),
+        Class::Local => return local::parse_local(buf, kind),
+        Class::BuildInfo => return object::parse_build_info(buf),
+        Class::InlineSite => return inline_site::parse_inline_site(buf, kind),
+        Class::InlineSiteEnd => return Ok((SymbolData::InlineSiteEnd, buf.pos)),
+        Class::ProcedureEnd => return Ok((SymbolData::ProcedureEnd, buf.pos)),
+        Class::Label => return procedure::parse_label(buf, kind),
+        Class::Block => return block::parse_block(buf, kind),
+        Class::RegisterRelative => return local::parse_register_relative(buf, kind),
+        Class::Thunk => return thunk::parse_thunk(buf, kind),
+        Class::SeparatedCode => return block::parse_separated_code(buf),
     }
 }
 
+/// The typed record, and the bytes that it took.
+#[inline(always)]
 pub fn decode(s: &[u8]) -> Decoded
-    ensures { decoded_of result ≡ decode s.now }
+    ensures { result ≡ decode s.now }
 {
     if MAX_RECORD < s.len() {
-        return Decoded::Refused(Refusal::at(Refusal::TOO_LONG, 0));
+        return Err(Refusal::TooLong);
     }
-    if s.len() < 2 {
-        return Decoded::Refused(Refusal::RUNS_OUT);
-    }
-    parse_by_kind(s, common::u16_at(s, 0))
+    let mut buf = ParseBuffer::new(s);
+    let kind = buf.parse()?;
+    parse_by_kind(buf, kind)
 }

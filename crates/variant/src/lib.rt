@@ -1,14 +1,13 @@
 // The numeric value of a constant (pdb's Variant): a prefix that is the value itself, or that says how the bytes after it are read.
 #![tactic(auto)]
 
-ghost use Rattle.std.specs.Prelude.{◌≡◌};
+ghost use Rattle.common.specs.Buffer.{Reads};
 ghost use Rattle.variant.specs.Numeric.{leaf, numeric};
-ghost use Rattle.variant.specs.Answer.{variant_of};
 
 use common::Refusal;
-use common::signed::{ParsedI16, ParsedI32, ParsedI64};
-use common::unsigned::{ParsedU8, ParsedU16, ParsedU32, ParsedU64};
+use common::buffer::ParseBuffer;
 
+/// From this prefix on, the prefix is not the value.
 pub const LF_NUMERIC: u16 = 0x8000;
 
 pub const LF_CHAR: u16 = 0x8000;
@@ -25,8 +24,8 @@ pub const LF_QUADWORD: u16 = 0x8009;
 
 pub const LF_UQUADWORD: u16 = 0x800a;
 
-// A numeric value, in the width and with the sign in which it is stored.
-#[derive(Clone, Copy)]
+/// A numeric value, in the width and with the sign in which it is stored.
+#[derive(Clone, Copy, Debug, PartialEq, Eq)]
 pub enum Variant {
     U8(u8),
     U16(u16),
@@ -37,61 +36,29 @@ pub enum Variant {
     I64(i64),
 }
 
-// What reading a numeric value answers: the value and the position after it, or the refusal.
-#[derive(Clone, Copy)]
-pub enum ParsedVariant {
-    Value(Variant, usize),
-    Refused(Refusal),
-}
-
-// What follows a prefix of LF_NUMERIC and above.
-fn parse_leaf(s: &[u8], at: usize, prefix: u16) -> ParsedVariant
-    ensures { variant_of result ≡ leaf prefix s.now at }
+/// Reads what follows a prefix of LF_NUMERIC and above.
+fn parse_leaf(buf: &mut ParseBuffer, prefix: u16) -> Result<Variant, Refusal>
+    ensures { Reads (leaf prefix) buf.old result buf.new }
 {
     match prefix {
-        LF_CHAR => match common::unsigned::parse_u8(s, at) {
-            ParsedU8::Value(x, next) => ParsedVariant::Value(Variant::U8(x), next),
-            ParsedU8::Refused(e) => ParsedVariant::Refused(e),
-        },
-        LF_SHORT => match common::signed::parse_i16(s, at) {
-            ParsedI16::Value(x, next) => ParsedVariant::Value(Variant::I16(x), next),
-            ParsedI16::Refused(e) => ParsedVariant::Refused(e),
-        },
-        LF_USHORT => match common::unsigned::parse_u16(s, at) {
-            ParsedU16::Value(x, next) => ParsedVariant::Value(Variant::U16(x), next),
-            ParsedU16::Refused(e) => ParsedVariant::Refused(e),
-        },
-        LF_LONG => match common::signed::parse_i32(s, at) {
-            ParsedI32::Value(x, next) => ParsedVariant::Value(Variant::I32(x), next),
-            ParsedI32::Refused(e) => ParsedVariant::Refused(e),
-        },
-        LF_ULONG => match common::unsigned::parse_u32(s, at) {
-            ParsedU32::Value(x, next) => ParsedVariant::Value(Variant::U32(x), next),
-            ParsedU32::Refused(e) => ParsedVariant::Refused(e),
-        },
-        LF_QUADWORD => match common::signed::parse_i64(s, at) {
-            ParsedI64::Value(x, next) => ParsedVariant::Value(Variant::I64(x), next),
-            ParsedI64::Refused(e) => ParsedVariant::Refused(e),
-        },
-        LF_UQUADWORD => match common::unsigned::parse_u64(s, at) {
-            ParsedU64::Value(x, next) => ParsedVariant::Value(Variant::U64(x), next),
-            ParsedU64::Refused(e) => ParsedVariant::Refused(e),
-        },
-        _ => ParsedVariant::Refused(Refusal::of(Refusal::UNEXPECTED_NUMERIC_PREFIX, prefix)),
+        LF_CHAR => Ok(Variant::U8(buf.parse()?)),
+        LF_SHORT => Ok(Variant::I16(buf.parse()?)),
+        LF_USHORT => Ok(Variant::U16(buf.parse()?)),
+        LF_LONG => Ok(Variant::I32(buf.parse()?)),
+        LF_ULONG => Ok(Variant::U32(buf.parse()?)),
+        LF_QUADWORD => Ok(Variant::I64(buf.parse()?)),
+        LF_UQUADWORD => Ok(Variant::U64(buf.parse()?)),
+        _ => Err(Refusal::UnexpectedNumericPrefix(prefix)),
     }
 }
 
-pub fn parse_variant(s: &[u8], at: usize) -> ParsedVariant
-    ensures { variant_of result ≡ numeric s.now at }
+/// Reads a numeric value.
+pub fn parse_variant(buf: &mut ParseBuffer) -> Result<Variant, Refusal>
+    ensures { Reads numeric buf.old result buf.new }
 {
-    match common::unsigned::parse_u16(s, at) {
-        ParsedU16::Value(prefix, next) => {
-            if prefix < LF_NUMERIC {
-                ParsedVariant::Value(Variant::U16(prefix), next)
-            } else {
-                parse_leaf(s, next, prefix)
-            }
-        }
-        ParsedU16::Refused(e) => ParsedVariant::Refused(e),
+    let prefix = buf.parse()?;
+    if prefix < LF_NUMERIC {
+        return Ok(Variant::U16(prefix));
     }
+    parse_leaf(buf, prefix)
 }

@@ -1,2 +1,1 @@
-pub mod Words
-pub mod Stores
+mod Flags

@@ -1,33 +1,35 @@
-// 64-bit words, the form in which answers leave the library: values as words, and words stored where the caller lends room (`put`).
-#![tactic(auto)]
+// 64-bit words, the form in which answers leave the library: values as words, and words stored where the caller lends room.
+//
+// A number of fewer bits, and a yes or no, is `x as u64`.
+#![tactic(auto, unfolding(crate::specs::Written::written))]
 
-pub mod put;
+ghost use Rattle.std.specs.Prelude.{◌≡◌, ◌≤◌, ℤ, length};
+ghost use Rattle.words.specs.Word.{bits, signed_word};
+ghost use Rattle.words.specs.Written.{written};
 
-ghost use Rattle.std.specs.Prelude.{◌≡◌};
-ghost use Rattle.words.specs.Word.{truth, signed_word};
-
-// 1 for true, 0 for false.
-pub fn truth(b: bool) -> u64
-    ensures { result ≡ truth b }
+/// A signed number in two's complement, whatever its width.
+pub fn signed_word<T: Into<i64>>(x: T) -> u64
+    ensures { (wide : ℤ) × T.converts x wide × (result ≡ signed_word wide) }
 {
-    if b { 1 } else { 0 }
+    let wide: i64 = x.into();
+    wide.cast_unsigned()
 }
 
-// A signed number in two's complement, whatever its width.
-pub fn i16_word(x: i16) -> u64
-    ensures { result ≡ signed_word x }
+/// A bit for each flag, the lowest first.
+pub fn bits(flags: &[bool]) -> u64
+    requires { length flags.now ≤ 64 }
+    ensures { result ≡ bits flags.now }
 {
-    i32_word(x as i32)
+    flags
+        .iter()
+        .rev()
+        .fold(0, |high, low| high << 1 | u64::from(*low))
 }
 
-pub fn i32_word(x: i32) -> u64
-    ensures { result ≡ signed_word x }
+/// Stores the words from place 0 on. The places behind them stay as they were.
+pub fn put<const N: usize>(out: &mut [u64], words: [u64; N])
+    requires { N ≤ length out.old }
+    ensures { out.new ≡ written words.entry out.old }
 {
-    i64_word(x as i64)
-}
-
-pub fn i64_word(x: i64) -> u64
-    ensures { result ≡ signed_word x }
-{
-    if x < 0 { !((!x) as u64) } else { x as u64 }
+    out[..N].copy_from_slice(&words);
 }

@@ -1,4 +1,4 @@
-use Prim.Native.Nat.{◌-◌}
+use Rattle.std.proofs.Common.{◌-◌, length}
 use Rattle.climb.proofs.Climbs.{Climbing}
 use Rattle.climb.proofs.climb_from.Given as goal
 
@@ -6,4 +6,4 @@ abbrev pub invariant-loop-parent : goal.invariant-loop-parent
 invariant-loop-parent l = Climbing l.s l.i l.first l.chain l.index l.parent
 
 abbrev pub decreases-loop-parent : goal.decreases-loop-parent
-decreases-loop-parent l = 64 - l.chain.depth
+decreases-loop-parent l = 64 - length l.chain

@@ -1,10 +1,9 @@
-use Prim.Native.Nat.{◌-◌}
-use lib.ListN.{length}
+use Rattle.std.proofs.Common.{◌-◌, length}
 use Rattle.jump.proofs.Jumps.{Jumping}
 use Rattle.jump.proofs.jump.Given as goal
 
-abbrev pub invariant-loop-e : goal.invariant-loop-e
-invariant-loop-e l = Jumping l.s l.start l.i l.chain l.at l.read
+abbrev pub invariant-loop-kind : goal.invariant-loop-kind
+invariant-loop-kind l = Jumping l.s l.start l.i l.chain l.at l.read
 
-abbrev pub decreases-loop-e : goal.decreases-loop-e
-decreases-loop-e l = length l.s - l.at
+abbrev pub decreases-loop-kind : goal.decreases-loop-kind
+decreases-loop-kind l = length l.s - l.at

@@ -1,17 +1,22 @@
 -- `links::links_of` meets its contract.
-use native.Mathlib.Omega.{arith}
-use mathlib.Core.Path.{sym, ◌∙◌}
-use Rattle.links.proofs.Openers.{links_answered, links_refused}
+use Rattle.std.proofs.Common.{rules}
+use Rattle.symbol.specs.Name.{name_of}
+use Rattle.links.specs.Links.{links_of}
+use Rattle.links.proofs.Openers.{links_there}
 use Rattle.links.proofs.links_of.Goals as goal
 
-pub u32_at-parent-requires : goal.u32_at-parent-requires
-u32_at-parent-requires c = let f = (links_answered _ _ c.requires (sym c.name.ensures ∙ c.in-Answer.is)) in omega arith
+pub returns-in_err-ok : goal.returns-in_err-ok
+unfolding links_of name_of
+returns-in_err-ok c = search rules
 
-pub u32_at-end-requires : goal.u32_at-end-requires
-u32_at-end-requires c = let f = (links_answered _ _ c.requires (sym c.name.ensures ∙ c.in-Answer.is)) in omega arith
+pub at-requires : goal.at-requires
+unfolding name_of
+at-requires c = search (rules, links_there)
 
-pub returns-in-Refused : goal.returns-in-Refused
-returns-in-Refused c = links_refused _ _ (sym c.name.ensures ∙ c.in-Refused.is)
+pub at-requires-2 : goal.at-requires-2
+unfolding name_of
+at-requires-2 c = search (rules, links_there)
 
-pub returns-in-Answer : goal.returns-in-Answer
-returns-in-Answer c = rw (c.u32_at-parent.ensures, c.u32_at-end.ensures) ((links_answered _ _ c.requires (sym c.name.ensures ∙ c.in-Answer.is))).links
+pub returns : goal.returns
+unfolding links_of name_of
+returns c = search rules

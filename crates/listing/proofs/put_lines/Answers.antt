@@ -1,44 +1,31 @@
--- `listing::put_lines` meets its contract. The loop's invariant is `Listing`; the measure is the number of bytes that are left.
-use mathlib.Core.Path.{sym, ◌∙◌}
-use native.Mathlib.Omega.{arith}
-use Rattle.listing.proofs.Lines.{refused_most}
-use Rattle.listing.proofs.Listings.{stepped, begins, at_end, at_refused, line-room, after_line}
+-- `listing::put_lines` meets its contract.
+use Rattle.std.proofs.Common.{arith}
+use Rattle.std.proofs.lemmas.Result.{err_from_is_err_and}
+use Rattle.iter.proofs.Steps.{next_within}
+use Rattle.listing.proofs.Listings.{begins, at_end, at_refusal, line_room, after_line}
 use Rattle.listing.proofs.put_lines.Goals as goal
 
-pub loop-e-init : goal.loop-e-init
-loop-e-init c = begins _ _
+pub loop-index-init : goal.loop-index-init
+loop-index-init c = begins _ _ c.requires.empty
 
-pub returns-in-End : goal.returns-in-End
-returns-in-End c =
-    at_end _ _ _ _ _ c.loop-e.invariant _ (sym c.step.ensures ∙ c.in-End.is)
+pub returns-in_err-step-clause-lines : goal.returns-in_err-step-clause-lines
+returns-in_err-step-clause-lines c = (at_refusal c.loop-index.invariant c.in_err-step.ensures).0
 
-pub put_refused-requires : goal.put_refused-requires
-put_refused-requires c =
-    let e = c.in-Refused.e in
-    omega (arith, refused_most e.number e.position, c.loop-e.invariant)
+pub returns-in_err-step-clause-ending : goal.returns-in_err-step-clause-ending
+returns-in_err-step-clause-ending c =
+    let p = err_from_is_err_and c.from_residual.result c.from_residual.ensures.1 in
+    rw (p.1, p.2) (at_refusal c.loop-index.invariant c.in_err-step.ensures).1
 
-pub returns-in-Refused : goal.returns-in-Refused
-returns-in-Refused c =
-    at_refused _ _ _ _ _ c.loop-e.invariant _ (sym c.step.ensures ∙ c.in-Refused.is) _ _ c.put_refused.ensures
+pub returns-in-End-clause-lines : goal.returns-in-End-clause-lines
+returns-in-End-clause-lines c = (at_end c.loop-index.invariant c.in_ok-step.ensures c.in-End.is).0
 
-pub slice_bounds-put_line-count : goal.slice_bounds-put_line-count
-slice_bounds-put_line-count c = omega (arith, stepped _ _ _ _ _ _ _ (sym c.step.ensures ∙ c.in-Record.is))
+pub returns-in-End-clause-ending : goal.returns-in-End-clause-ending
+returns-in-End-clause-ending c = (at_end c.loop-index.invariant c.in_ok-step.ensures c.in-End.is).1
 
-pub slice_bounds-put_line-start : goal.slice_bounds-put_line-start
-slice_bounds-put_line-start c = omega (arith, stepped _ _ _ _ _ _ _ (sym c.step.ensures ∙ c.in-Record.is))
+pub put_line-requires : goal.put_line-requires
+put_line-requires c =
+    let l = c.loop-index in
+    omega (arith, line_room l.invariant c.in_ok-step.ensures c.in-Record.is, next_within _ _ c.in_ok-step.ensures c.in-Record.is)
 
-pub slice_bounds-put_line-end : goal.slice_bounds-put_line-end
-slice_bounds-put_line-end c = omega (arith, stepped _ _ _ _ _ _ _ (sym c.step.ensures ∙ c.in-Record.is))
-
-pub put_line-n-requires : goal.put_line-n-requires
-put_line-n-requires c =
-    let l = c.loop-e in
-    omega (arith, stepped _ _ _ _ _ _ _ (sym c.step.ensures ∙ c.in-Record.is), line-room _ _ _ _ _ l.invariant _ _ _ _ _ (sym c.step.ensures ∙ c.in-Record.is))
-
-pub loop-e-smaller : goal.loop-e-smaller
-loop-e-smaller c = omega (arith, stepped _ _ _ _ _ _ _ (sym c.step.ensures ∙ c.in-Record.is))
-
-pub loop-e-preserved : goal.loop-e-preserved
-loop-e-preserved c =
-    let l = c.loop-e in
-    after_line _ _ _ _ _ l.invariant _ _ _ _ _ (sym c.step.ensures ∙ c.in-Record.is) (omega arith) _ _ c.put_line-n.ensures
+pub loop-index-preserved : goal.loop-index-preserved
+loop-index-preserved c = after_line c.loop-index.invariant c.in_ok-step.ensures c.in-Record.is c.requires.listed c.put_line.ensures

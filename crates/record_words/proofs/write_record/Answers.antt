@@ -1,7 +1,16 @@
--- `record_words::write_record` meets its contract.
-use mathlib.Core.Path.{◌∙◌}
-use Rattle.record_words.proofs.Stores.{record_written}
+-- `record_words::write_record` meets its contract: the records that have no fields.
+use Rattle.std.proofs.Common.{rules}
+use Rattle.record_words.specs.Record.{record_words}
 use Rattle.record_words.proofs.write_record.Goals as goal
 
-pub returns : goal.returns
-returns c = c.put2.ensures ∙ record_written _ _ _ _ _ c.put2-arg-1.given.0.1 (c.put_fields-class.ensures.class, c.put_fields-class.ensures.fields)
+pub returns-in-ScopeEnd : goal.returns-in-ScopeEnd
+unfolding record_words
+returns-in-ScopeEnd c = search rules
+
+pub returns-in-InlineSiteEnd : goal.returns-in-InlineSiteEnd
+unfolding record_words
+returns-in-InlineSiteEnd c = search rules
+
+pub returns-in-ProcedureEnd : goal.returns-in-ProcedureEnd
+unfolding record_words
+returns-in-ProcedureEnd c = search rules

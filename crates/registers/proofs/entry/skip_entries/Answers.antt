@@ -1,21 +1,13 @@
 -- `registers::entry::skip_entries` meets its contract.
-use borrow.Author.Rules.{rules}
-use mathlib.Core.Path.{sym, ap, ◌∙◌}
-use Rattle.registers.specs.EntryAnswer.{entry_of}
-use Rattle.registers.proofs.Entries.{skip-none, skip-more, skip-refused}
+use Rattle.std.proofs.Common.{rules}
+use Rattle.registers.proofs.Skips.{none_left, one_more}
 use Rattle.registers.proofs.entry.skip_entries.Goals as goal
 
-pub returns-in-Refused : goal.returns-in-Refused
-returns-in-Refused c =
-    skip-refused _ _ _ _ c.loop-left-test.true (sym (ap entry_of c.in-Refused.is) ∙ c.parse_entry.ensures)
-    ∙ c.loop-left.invariant.1
+pub returns-in_err-parse_entry : goal.returns-in_err-parse_entry
+returns-in_err-parse_entry c = let more = one_more c.args.kind c.args.n c.loop.counter c.loop-test.true in search rules
 
-pub loop-left-preserved : goal.loop-left-preserved
-loop-left-preserved c = (
-  search rules,
-  skip-more _ _ _ _ c.loop-left-test.true (sym (ap entry_of c.in-Value.is) ∙ c.parse_entry.ensures)
-      ∙ c.loop-left.invariant.1,
-)
+pub loop-preserved : goal.loop-preserved
+loop-preserved c = let more = one_more c.args.kind c.args.n c.loop.counter c.loop-test.true in search rules
 
 pub returns : goal.returns
-returns c = skip-none _ _ _ _ c.loop-left-test.false ∙ c.loop-left.invariant.1
+returns c = let none = none_left c.args.kind c.args.n c.loop.counter (search rules) in search rules

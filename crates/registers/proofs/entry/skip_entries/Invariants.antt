@@ -1,10 +1,9 @@
-use Prim.Native.Nat.{◌≤◌}
-use mathlib.Core.Path.{◌≡◌}
+-- The entries that are left, from here on, are those that were asked for from where the loop began.
+use Rattle.std.proofs.Common.{◌≡◌, ◌-◌}
 use Rattle.registers.specs.Entries.{skip}
 use Rattle.registers.proofs.entry.skip_entries.Given as goal
 
-abbrev pub invariant-loop-left : goal.invariant-loop-left
-invariant-loop-left l = (l.left ≤ l.n) × (skip l.kind l.left l.s l.to ≡ skip l.kind l.n l.s l.at)
-
-abbrev pub decreases-loop-left : goal.decreases-loop-left
-decreases-loop-left l = l.left
+abbrev pub invariant-loop : goal.invariant-loop
+invariant-loop l =
+    (l.buf.bytes ≡ l.initial.buf.bytes)
+    × (skip l.kind (l.n - l.counter) l.buf.bytes.now l.buf.pos ≡ skip l.kind l.n l.initial.buf.bytes.now l.initial.buf.pos)

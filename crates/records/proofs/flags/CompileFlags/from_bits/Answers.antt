@@ -1,11 +1,9 @@
 -- `records::flags::CompileFlags::from_bits` meets its contract.
 use mathlib.Core.Bool.{◌&&◌}
-use Rattle.records.specs.Flags.{compile_flags}
 use Rattle.records.proofs.Bits.{masked}
 use Rattle.records.proofs.flags.CompileFlags.from_bits.Goals as goal
 
 pub returns : goal.returns
-unfolding compile_flags
 returns c =
     let x = c.args.x in
     λ i. record {

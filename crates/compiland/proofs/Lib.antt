@@ -1,2 +1,0 @@
-pub mod OptionalName
-pub mod Rows
