@@ -5,7 +5,8 @@ use native.Mathlib.Decide.{dec_lt}
 use Rattle.common.specs.declared.Refusal.TheVariants.{NothingThere}
 use Rattle.iter.specs.Step.{scan_of}
 use Rattle.iter.specs.Reading.{Rec}
-use Rattle.iter.specs.declared.Next.TheVariants.{Record}
+use Rattle.iter.specs.declared.Record.{Record}
+use Rattle.iter.specs.declared.Next.TheVariants as N
 use Rattle.iter.proofs.Reading.{step_fits}
 use Rattle.chain.specs.Finding.{Walk, seen}
 use Rattle.walk.proofs.Walks.{walk_at}
@@ -62,47 +63,47 @@ module _ (s : List ℕ) (i : ℕ) where
   Goal p st = Agree (jump_from s i p (indexes st)) (walk_at s i p (indexes st))
 
   -- a record before i is dealt with by `before`; at i and past it nothing else matters
-  meets : {kind index from len next : ℕ} (p : ℕ) (st : List Open) → (scan_of s p).step ≡ Ok (Record kind index from len next) → (index < i → Goal p st) → Goal p st
-  meets {kind} {index} {from} {len} {next} p st h before = go (order index i)
+  meets : {it : Record} (p : ℕ) (st : List Open) → (scan_of s p).step ≡ Ok (N.Record it) → (it.index < i → Goal p st) → Goal p st
+  meets {it} p st h before = go (order it.index i)
     where
-      go : Order index i → Goal p st
+      go : Order it.index i → Goal p st
       go (less a) = before a
       go (same a) =
-          let j = jump_same s i p (indexes st) index from len next h a in
-          let w = walk_same s i p (indexes st) index from len next h a in
+          let j = jump_same s i p (indexes st) it h a in
+          let w = walk_same s i p (indexes st) it h a in
           both (same_out j) (same_out w) (let n = same_count (j ∙ sym w) in omega (arith, n))
       go (more a) =
-          none (same_out (jump_past s i p (indexes st) index from len next h a)) (same_out (walk_past s i p (indexes st) index from len next h a))
+          none (same_out (jump_past s i p (indexes st) it h a)) (same_out (walk_past s i p (indexes st) it h a))
 
   abbrev Agrees : ℕ → List Open → Type 0
   Agrees p st = Reach i st → Goal p st
 
   agree_on : (p : ℕ) (st : List Open) → First s p st → ((q : ℕ) (gs : List Open) → p < q → q ≤ length s → NestsAt s q gs → Agrees q gs) → Agrees p st
   agree_on p st (done {q = q} h) on c = none (same_out (jump_end s i p [] q h)) (same_out (walk_end_lem s i p [] q h))
-  agree_on p st (passes {index = index} {from = from} {len = len} {next = next} h r d) on c =
+  agree_on p st (passes {it = it} h r d) on c =
       meets p st h
       (λ a.
-      let y = step_fits s p index from len next h in
-      along_one _ (jump_plain s i p (indexes st) index from len next h a r) (walk_plain s i p (indexes st) index from len next h a r)
-      (on next st (omega arith) (omega arith) d c))
-  agree_on p st (opens {index = index} {from = from} {len = len} {next = next} {l = k} h r g z t o d) on c =
+      let y = step_fits s p it h in
+      along_one _ (jump_plain s i p (indexes st) it h a r) (walk_plain s i p (indexes st) it h a r)
+      (on it.next st (omega arith) (omega arith) d c))
+  agree_on p st (opens {it = it} {l = k} h r g z t o d) on c =
       meets p st h
       (λ a.
-      let y = step_fits s p index from len next h in
+      let y = step_fits s p it h in
       let x : length (indexes st) ≡ length st = length_indexes st in
       let room : length (indexes st) < 64 = omega arith in
-      let w : Skip s i next (open_at index k.end ∷ st) k.end st = skip s i (open_at index k.end) st next d in
-      let ny = step_fits s k.end k.end w.start w.long w.after w.lands in
-      let ne : next ≤ k.end = w.from in
+      let w : Skip s i it.next (open_at it.index k.end ∷ st) k.end st = skip s i (open_at it.index k.end) st it.next d in
+      let ny = step_fits s k.end w.closing w.lands in
+      let ne : it.next ≤ k.end = w.from in
       below k.end i
       (λ (q : i ≤ k.end).
-      along_one _ (jump_push s i p (indexes st) index from len next h a r g ne q room) (walk_open s i p (indexes st) index from len next h a r room)
-      (on next (open_at index k.end ∷ st) (omega arith) (omega arith) d q))
+      along_one _ (jump_push s i p (indexes st) it h a r g ne q room) (walk_open s i p (indexes st) it h a r room)
+      (on it.next (open_at it.index k.end ∷ st) (omega arith) (omega arith) d q))
       (λ (q : k.end < i).
-      let b = jump_over s i p (indexes st) index from len next h a r g ne q w.lands w.closer in
-      let u = through_one _ (walk_open s i p (indexes st) index from len next h a r room) in
+      let b = jump_over s i p (indexes st) it h a r g ne q w.lands w.here w.closer in
+      let u = through_one _ (walk_open s i p (indexes st) it h a r room) in
       let v = w.walked q in
-      along 2 (same_out b) (same_count b ∙ (omega arith)) (u.outs ∙ v.outs) (omega (arith, u.more, v.more)) (on w.after st (omega arith) (omega arith) w.rest c)))
+      along 2 (same_out b) (same_count b ∙ (omega arith)) (u.outs ∙ v.outs) (omega (arith, u.more, v.more)) (on w.closing.next st (omega arith) (omega arith) w.rest c)))
   agree_on p _ (closes {o = o} {st = st} h r t d) on c = meets p (o ∷ st) h (λ a. absurd (omega arith))
 
   pub agree : (p : ℕ) → NestsAt s p [] → Goal p []

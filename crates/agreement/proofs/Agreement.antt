@@ -6,8 +6,9 @@ use Rattle.common.specs.declared.Refusal.TheVariants.{NothingThere}
 use Rattle.constants.specs.Raw.{nesting_role_of}
 use Rattle.constants.specs.declared.Role.TheVariants.{Neither, Opens, Closes}
 use Rattle.iter.specs.Step.{scan_of}
-use Rattle.iter.specs.Reading.{Rec, Reading, rec_at, read_of, Some, Begins}
-use Rattle.iter.specs.declared.Next.TheVariants.{End, Record}
+use Rattle.iter.specs.Reading.{bytes_at, Rec, Reading, rec_at, read_of, Some, Begins}
+use Rattle.iter.specs.declared.Record.{Record}
+use Rattle.iter.specs.declared.Next.TheVariants as N
 use Rattle.iter.proofs.Reading.{step_fits, read_by}
 use Rattle.iter.proofs.Records.{Rising, rising}
 use Rattle.chain.specs.Finding.{Walk, seen}
@@ -20,7 +21,7 @@ use Rattle.jump.specs.Jump.{jump_from, jump_of}
 use Rattle.climb.specs.Opener.{opener_of}
 use Rattle.climb.specs.Climb.{reached_by, climb_of}
 use Rattle.agreement.specs.Agreement.{OpenerBegins, Agreement, Condition3, answers_of}
-use Rattle.agreement.proofs.Nest.{bytes_at, open_at, indexes, length_indexes, NestsAt, First, done, passes, opens, closes, nests-ind}
+use Rattle.agreement.proofs.Nest.{open_at, indexes, length_indexes, NestsAt, First, done, passes, opens, closes, nests-ind}
 use Rattle.agreement.proofs.Turns.{same_out, walk_end_lem, walk_same, walk_past, walk_plain, walk_open, walk_close}
 use Rattle.agreement.proofs.Agree.{Order, less, same, more, order, Agree, both, none, agree}
 use Rattle.agreement.proofs.Parents.{opener-found, Up, top, over, up_later, up_out, climb_opener}
@@ -45,15 +46,15 @@ module _ (s : List ℕ) (P : Rec → Type 0) where
   abbrev From : ℕ → Type 0
   From p = Some P (read_of s p).recs
 
-  from_end : (p q : ℕ) → (scan_of s p).step ≡ Ok (End q) → From p → ⊥
-  from_end p q e b = subst (λ (r : Reading). Some P r.recs) (read_by s p (Ok (End q)) e) b
+  from_end : (p q : ℕ) → (scan_of s p).step ≡ Ok (N.End q) → From p → ⊥
+  from_end p q e b = subst (λ (r : Reading). Some P r.recs) (read_by s p (Ok (N.End q)) e) b
 
-  module _ (p index from len next : ℕ) {kind : ℕ} (e : (scan_of s p).step ≡ Ok (Record kind index from len next)) where
-    from_is : From p → P (rec_at s (scan_of s p) index from len) ⊎ From next
-    from_is b = subst (λ (r : Reading). Some P r.recs) (read_by s p (Ok (Record kind index from len next)) e) b
+  module _ (p : ℕ) (it : Record) (e : (scan_of s p).step ≡ Ok (N.Record it)) where
+    from_is : From p → P (rec_at s (scan_of s p) it) ⊎ From it.next
+    from_is b = subst (λ (r : Reading). Some P r.recs) (read_by s p (Ok (N.Record it)) e) b
 
-    from_with : P (rec_at s (scan_of s p) index from len) ⊎ From next → From p
-    from_with b = subst (λ (r : Reading). Some P r.recs) (sym (read_by s p (Ok (Record kind index from len next)) e)) b
+    from_with : P (rec_at s (scan_of s p) it) ⊎ From it.next → From p
+    from_with b = subst (λ (r : Reading). Some P r.recs) (sym (read_by s p (Ok (N.Record it)) e)) b
 
 module _ (s : List ℕ) (i : ℕ) where
   abbrev Is : Rec → Type 0
@@ -75,74 +76,74 @@ module _ (s : List ℕ) (i : ℕ) where
     found : {gs : List ℕ} → Begins s p i → (walk_from_stack p st).out ≡ Ok gs → (OpenerBegins s p i → Climbs gs) → Met p st
     lost : (Begins s p i → ⊥) → (walk_from_stack p st).out ≡ Err NothingThere → Met p st
 
-  module _ (p index from len next : ℕ) (st : List Open) {kind : ℕ} (h : (scan_of s p).step ≡ Ok (Record kind index from len next)) where
+  module _ (p : ℕ) (it : Record) (st : List Open) (h : (scan_of s p).step ≡ Ok (N.Record it)) where
     -- the record of p's step lies before i
-    past : (gs : List Open) → index < i → walk_from_stack p st ≡ seen (rec_at s (scan_of s p) index from len) (walk_from_stack next gs) → Met next gs → Met p st
+    past : (gs : List Open) → it.index < i → walk_from_stack p st ≡ seen (rec_at s (scan_of s p) it) (walk_from_stack it.next gs) → Met it.next gs → Met p st
     past gs l w (found b q c) =
-        found (from_with s Is p index from len next h (inr b)) (same_out w ∙ q)
+        found (from_with s Is p it h (inr b)) (same_out w ∙ q)
         (λ o.
-        elim (from_is s IsOpener p index from len next h o) [
-          | inl e ↦ (let f : index ≡ i = e.0 in absurd (omega arith))
+        elim (from_is s IsOpener p it h o) [
+          | inl e ↦ (let f : it.index ≡ i = e.0 in absurd (omega arith))
           | inr d ↦ c d
         ])
     past gs l w (lost d q) =
-        lost (λ b. elim (from_is s Is p index from len next h b) [ inl e ↦ absurd (omega arith) | inr c ↦ d c ]) (same_out w ∙ q)
+        lost (λ b. elim (from_is s Is p it h b) [ inl e ↦ absurd (omega arith) | inr c ↦ d c ]) (same_out w ∙ q)
 
     -- none that comes later begins at the index of p's step or before it
-    later : (P : Rec → Type 0) → ((r : Rec) → P r → r.index ≡ i) → i ≤ index → Some P (read_of s next).recs → ⊥
+    later : (P : Rec → Type 0) → ((r : Rec) → P r → r.index ≡ i) → i ≤ it.index → Some P (read_of s it.next).recs → ⊥
     later P at l b =
-        let y = step_fits s p index from len next h in
-        let f : next ≤ i = some_from P i at next (read_of s next).recs (rising s next) b in
+        let y = step_fits s p it h in
+        let f : it.next ≤ i = some_from P i at it.next (read_of s it.next).recs (rising s it.next) b in
         absurd (omega arith)
 
-    meets : (index < i → Met p st) → (index ≡ i → nesting_role_of (bytes_at s from len) ≡ Opens → Climbs (indexes st)) → Met p st
-    meets before climbs = by (order index i)
+    meets : (it.index < i → Met p st) → (it.index ≡ i → nesting_role_of (bytes_at s it) ≡ Opens → Climbs (indexes st)) → Met p st
+    meets before climbs = by (order it.index i)
       where
-        by : Order index i → Met p st
+        by : Order it.index i → Met p st
         by (less l) = before l
         by (same e) =
-            let w = walk_same s i p (indexes st) index from len next h e in
-            found (from_with s Is p index from len next h (inl e)) (same_out w)
+            let w = walk_same s i p (indexes st) it h e in
+            found (from_with s Is p it h (inl e)) (same_out w)
             (λ o.
-            elim (from_is s IsOpener p index from len next h o) [
+            elim (from_is s IsOpener p it h o) [
               | inl d ↦ climbs e d.1
               | inr d ↦ absurd (later IsOpener (λ r x. x.0) (omega arith) d)
             ])
         by (more l) =
             lost
             (λ b.
-            elim (from_is s Is p index from len next h b) [
+            elim (from_is s Is p it h b) [
               | inl e ↦ absurd (omega arith)
               | inr c ↦ absurd (later Is (λ r x. x) (omega arith) c)
             ])
-            (same_out (walk_past s i p (indexes st) index from len next h l))
+            (same_out (walk_past s i p (indexes st) it h l))
 
   abbrev Meets : ℕ → List Open → Type 0
   Meets p st = length st ≤ 64 → Up s p st → Met p st
 
   met_on : (p : ℕ) (st : List Open) → First s p st → ((q : ℕ) (gs : List Open) → p < q → q ≤ length s → NestsAt s q gs → Meets q gs) → Meets p st
   met_on p st (done {q = q} h) on m u = lost (from_end s Is p q h) (same_out (walk_end_lem s i p [] q h))
-  met_on p st (passes {index = index} {from = from} {len = len} {next = next} h r d) on m u =
-      let y = step_fits s p index from len next h in
-      meets p index from len next st h
-      (λ a. past p index from len next st h st a (walk_plain s i p (indexes st) index from len next h a r)
-      (on next st (omega arith) (omega arith) d m (up_later next (omega arith) u)))
+  met_on p st (passes {it = it} h r d) on m u =
+      let y = step_fits s p it h in
+      meets p it st h
+      (λ a. past p it st h st a (walk_plain s i p (indexes st) it h a r)
+      (on it.next st (omega arith) (omega arith) d m (up_later it.next (omega arith) u)))
       (λ e o. let z : Neither ≡ Opens = sym r ∙ o in cc)
-  met_on p st (opens {index = index} {from = from} {len = len} {next = next} {l = l} h r g z t o d) on m u =
-      let y = step_fits s p index from len next h in
+  met_on p st (opens {it = it} {l = l} h r g z t o d) on m u =
+      let y = step_fits s p it h in
       let x : length (indexes st) ≡ length st = length_indexes st in
       let room : length (indexes st) < 64 = omega arith in
-      let opener : Ok (inner_index st) ≡ opener_of s index = rw (← t) (opener-found s p index from len next h r g) in
-      let below : Up s index st = up_later index (omega arith) u in
-      meets p index from len next st h
-      (λ a. past p index from len next st h (open_at index l.end ∷ st) a (walk_open s i p (indexes st) index from len next h a r room)
-      (on next (open_at index l.end ∷ st) (omega arith) (omega arith) d o (over (omega arith) z opener below)))
-      (λ e q. subst (λ (k : ℕ). climb_of s k ≡ reached_by (reverse (indexes st))) e (climb_opener s index st opener m below))
-  met_on p _ (closes {index = index} {from = from} {len = len} {next = next} {o = o} {st = st} h r t d) on m u =
-      let y = step_fits s p index from len next h in
-      meets p index from len next (o ∷ st) h
-      (λ a. past p index from len next (o ∷ st) h st a (walk_close s i p o.index (indexes st) index from len next h a r)
-      (on next st (omega arith) (omega arith) d (omega arith) (up_out next (omega arith) u)))
+      let opener : Ok (inner_index st) ≡ opener_of s it.index = rw (← t) (opener-found s p it h r g) in
+      let below : Up s it.index st = up_later it.index (omega arith) u in
+      meets p it st h
+      (λ a. past p it st h (open_at it.index l.end ∷ st) a (walk_open s i p (indexes st) it h a r room)
+      (on it.next (open_at it.index l.end ∷ st) (omega arith) (omega arith) d o (over (omega arith) z opener below)))
+      (λ e q. subst (λ (k : ℕ). climb_of s k ≡ reached_by (reverse (indexes st))) e (climb_opener s it.index st opener m below))
+  met_on p _ (closes {it = it} {o = o} {st = st} h r t d) on m u =
+      let y = step_fits s p it h in
+      meets p it (o ∷ st) h
+      (λ a. past p it (o ∷ st) h st a (walk_close s i p o.index (indexes st) it h a r)
+      (on it.next st (omega arith) (omega arith) d (omega arith) (up_out it.next (omega arith) u)))
       (λ e q. let z : Closes ≡ Opens = sym r ∙ q in cc)
 
   met : (p : ℕ) → NestsAt s p [] → Met p []

@@ -6,7 +6,9 @@ use Rattle.constants.specs.Kind.{nesting_role}
 use Rattle.constants.specs.Raw.{nesting_role_of}
 use Rattle.constants.specs.declared.Role.TheVariants.{Opens}
 use Rattle.iter.specs.Step.{scan_of, step_of}
-use Rattle.iter.specs.declared.Next.TheVariants.{Record}
+use Rattle.iter.specs.Reading.{bytes_at}
+use Rattle.iter.specs.declared.Record.{Record}
+use Rattle.iter.specs.declared.Next.TheVariants as N
 use Rattle.iter.specs.declared.Scan.{Scan}
 use Rattle.iter.proofs.Reading.{again}
 use Rattle.iter.proofs.Records.{kind_of}
@@ -17,14 +19,14 @@ use Rattle.check_nesting.specs.Stack.{inner_index}
 use Rattle.climb.specs.Opener.{opener_of}
 use Rattle.climb.specs.Climb.{reached_by, climb_by, climb_on, climb_of}
 use Rattle.climb.proofs.Climbs.{climb_top, climb_below}
-use Rattle.agreement.proofs.Nest.{bytes_at, indexes}
+use Rattle.agreement.proofs.Nest.{indexes}
 
 -- an opener that a step yields is found at its own index, with its parent field
-pub opener-found : (s : List ℕ) (p index from len next : ℕ) {kind : ℕ} {l : Links} → (scan_of s p).step ≡ Ok (Record kind index from len next) →
-    nesting_role_of (bytes_at s from len) ≡ Opens → links_of (bytes_at s from len) ≡ Some l → Ok l.parent ≡ opener_of s index
+pub opener-found : (s : List ℕ) (p : ℕ) (it : Record) {l : Links} → (scan_of s p).step ≡ Ok (N.Record it) →
+    nesting_role_of (bytes_at s it) ≡ Opens → links_of (bytes_at s it) ≡ Some l → Ok l.parent ≡ opener_of s it.index
 unfolding opener_of step_of nesting_role_of
-opener-found s p index from len next h r g =
-    rw (ap (λ (c : Scan). c.step) (again s p index from len next h), eq-eqb index index refl, ap nesting_role (kind_of s p index from len next h) ∙ r, g)
+opener-found s p it h r g =
+    rw (ap (λ (c : Scan). c.step) (again s p it h), eq-eqb it.index it.index refl, ap nesting_role (kind_of s p it h) ∙ r, g)
 
 -- below p each open opener's parent field is the index of the next one out, which lies lower, and the outermost's is 0
 pub data Up (s : List ℕ) : ℕ → List Open → Type 0 where

@@ -5,7 +5,8 @@ use Rattle.std.proofs.lemmas.List.{reverse-append, reverse-reverse}
 use Rattle.iter.specs.Step.{scan_of, step_of}
 use Rattle.iter.specs.Reading.{Rec, rec_at}
 use Rattle.iter.specs.declared.Next.{Next}
-use Rattle.iter.specs.declared.Next.TheVariants.{Record}
+use Rattle.iter.specs.declared.Record.{Record}
+use Rattle.iter.specs.declared.Next.TheVariants as N
 use Rattle.iter.proofs.Reading.{Stepped, step_fits}
 use Rattle.iter.proofs.Steps.{record_of}
 use Rattle.chain.specs.Finding.{Walk, seen, found_at, answer_of, finding_of}
@@ -31,29 +32,29 @@ module _ {F : ℕ → List ℕ → Walk} {s : List ℕ} {start : ℕ} {chain : L
       record { outs = g.outs ∙ ap (λ (x : Walk). x.out) l ∙ eo; counts = omega (arith, g.counts, v); few = omega (arith, g.few) }
 
 -- a turn of the loop, at a record that the step yields
-pub record AtRecord (F : ℕ → List ℕ → Walk) (s : List ℕ) (start : ℕ) (chain : List ℕ) (at read kind index from len next : ℕ) : Type 0 where
+pub record AtRecord (F : ℕ → List ℕ → Walk) (s : List ℕ) (start : ℕ) (chain : List ℕ) (at read : ℕ) (it : Record) : Type 0 where
   pub going : Going F s start chain at read
-  pub yields : (scan_of s at).step ≡ Ok (Record kind index from len next)
-  pub fits : Stepped s at index from len next
+  pub yields : (scan_of s at).step ≡ Ok (N.Record it)
+  pub fits : Stepped s at it
 
-pub at_record : {F : ℕ → List ℕ → Walk} {s : List ℕ} {start : ℕ} {chain : List ℕ} {at read : ℕ} {n : Next} {kind index from len next : ℕ} →
-    Going F s start chain at read → Ok n ≡ step_of s at → n ≡ Record kind index from len next → AtRecord F s start chain at read kind index from len next
-at_record {s = s} {at = at} {index = index} {from = from} {len = len} {next = next} g e f =
+pub at_record : {F : ℕ → List ℕ → Walk} {s : List ℕ} {start : ℕ} {chain : List ℕ} {at read : ℕ} {n : Next} {it : Record} →
+    Going F s start chain at read → Ok n ≡ step_of s at → n ≡ N.Record it → AtRecord F s start chain at read it
+at_record {s = s} {at = at} {it = it} g e f =
     let h = record_of s at e f in
-    record { going = g; yields = h; fits = step_fits s at index from len next h }
+    record { going = g; yields = h; fits = step_fits s at it h }
 
-module _ {F : ℕ → List ℕ → Walk} {s : List ℕ} {start : ℕ} {chain : List ℕ} {at read kind index from len next : ℕ}
-    (y : AtRecord F s start chain at read kind index from len next) where
+module _ {F : ℕ → List ℕ → Walk} {s : List ℕ} {start : ℕ} {chain : List ℕ} {at read : ℕ} {it : Record}
+    (y : AtRecord F s start chain at read it) where
   abbrev r : Rec
-  r = rec_at s (scan_of s at) index from len
+  r = rec_at s (scan_of s at) it
 
   -- with another chain, behind that record
-  pub turned : (ch : List ℕ) → F at (reverse chain) ≡ seen r (F next (reverse ch)) → Going F s start ch next (read + 1)
-  turned ch l = onward y.going next 1 ch (omega (arith, y.fits)) (omega (arith, y.fits)) l refl (omega arith)
+  pub turned : (ch : List ℕ) → F at (reverse chain) ≡ seen r (F it.next (reverse ch)) → Going F s start ch it.next (read + 1)
+  turned ch l = onward y.going it.next 1 ch (omega (arith, y.fits)) (omega (arith, y.fits)) l refl (omega arith)
 
   -- with that record's index behind the others
-  pub pushed : {ch : List ℕ} → ch ≡ chain ++ index ∷ [] → F at (reverse chain) ≡ seen r (F next (index ∷ reverse chain)) → Going F s start ch next (read + 1)
-  pushed {ch} c l = turned ch (rw (c, reverse-append chain (index ∷ [])) l)
+  pub pushed : {ch : List ℕ} → ch ≡ chain ++ it.index ∷ [] → F at (reverse chain) ≡ seen r (F it.next (it.index ∷ reverse chain)) → Going F s start ch it.next (read + 1)
+  pushed {ch} c l = turned ch (rw (c, reverse-append chain (it.index ∷ [])) l)
 
   -- the answer, where that record is the one asked for
   pub found : F at (reverse chain) ≡ found_at r (reverse chain) → Ok (record { chain = chain; count = read + 1 }) ≡ finding_of (F start [])

@@ -11,7 +11,7 @@ use std::marker::Model;
 /// The most scopes that lie in one another, and the most positions that a chain lists.
 pub const MAX_DEPTH: usize = 64;
 
-/// Up to 64 positions.
+/// Up to 64 positions. (Places and a count: an answer is `Copy`, which the kit's `ArrayVec` is not, and C is told all 64 places.)
 #[derive(Clone, Copy, Debug, PartialEq, Eq)]
 pub struct Chain {
     at: [u32; MAX_DEPTH],

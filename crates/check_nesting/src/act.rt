@@ -1,13 +1,13 @@
 // What the nesting check does at one record: the loop of crate check_nesting does as it says.
 ghost use Rattle.std.specs.Prelude.{◌≡◌, reverse};
-ghost use Rattle.constants.specs.declared.Role.TheVariants.{Opens};
-ghost use Rattle.constants.specs.Raw.{raw_kind, nesting_role_of};
-ghost use Rattle.links.specs.Links.{links_of};
+ghost use Rattle.constants.specs.Raw.{raw_kind};
 ghost use Rattle.check_nesting.specs.Act.{act_of, open_of, close_of, rec_of};
 
 use chain::MAX_DEPTH;
 use common::Refusal;
 use constants::Role;
+use iter::Record;
+use links::Links;
 
 /// An open opener.
 #[derive(Clone, Copy, Debug, Default, PartialEq, Eq)]
@@ -32,32 +32,28 @@ pub enum Act {
     Pop,
 }
 
-/// The act at a record of this kind and index, with these openers open, the innermost last.
+/// The act at a record, whose bytes are lent with it, with these openers open, the innermost last.
 #[tactic(auto, using(iter::proofs::Records::role_of_lem), unfolding(crate::specs::Act::act_of))]
-pub fn act_at(kind: u16, rec: &[u8], index: usize, stack: &[Open]) -> Result<Act, Refusal>
-    requires { kind ≡ raw_kind rec.now }
-    ensures { result ≡ act_of (rec_of index rec.now) (reverse stack.now) }
+pub fn act_at(r: Record, rec: &[u8], stack: &[Open]) -> Result<Act, Refusal>
+    requires { r.kind ≡ raw_kind rec.now }
+    ensures { result ≡ act_of (rec_of r.index rec.now) (reverse stack.now) }
 {
-    match constants::nesting_role(kind) {
-        Role::Opens => open_at(rec, index, stack),
-        Role::Closes => close_at(index, stack),
+    match constants::nesting_role(r.kind) {
+        Role::Opens => open_at(links::links_of(rec), r.index, stack),
+        Role::Closes => close_at(r.index, stack),
         Role::Neither => Ok(Act::Stay),
     }
 }
 
-/// The act at an opener.
-fn open_at(rec: &[u8], index: usize, stack: &[Open]) -> Result<Act, Refusal>
-    requires { nesting_role_of rec.now ≡ Opens }
-    ensures { result ≡ open_of (links_of rec.now) index (reverse stack.now) }
+/// The act at an opener with these links.
+fn open_at(links: Option<Links>, index: usize, stack: &[Open]) -> Result<Act, Refusal>
+    ensures { result ≡ open_of links index (reverse stack.now) }
 {
-    let links = links::links_of(rec).ok_or(Refusal::UnreadableOpener(index))?;
+    let links = links.ok_or(Refusal::UnreadableOpener(index))?;
     if index == 0 {
         return Err(Refusal::OpenerAt0);
     }
-    let innermost = match stack.last() {
-        None => 0,
-        Some(o) => o.index,
-    };
+    let innermost = stack.last().map_or(0, |o| o.index);
     if links.parent as usize != innermost {
         return Err(Refusal::WrongParent(index));
     }

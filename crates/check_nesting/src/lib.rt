@@ -46,6 +46,7 @@ fn at_end(n: Counts, stack: &[Open]) -> Result<Counts, Refusal>
 }
 
 /// Whether the stream nests from a start on, and what it holds.
+#[tactic(auto, using(crate::proofs::Checks::start_le_next, crate::proofs::Checks::next_within, crate::proofs::Checks::less_left, crate::proofs::Checks::lent_kind, crate::proofs::Checks::records_fit, crate::proofs::Checks::bytes_fit, crate::proofs::Checks::turned))]
 pub fn check(s: &[u8], start: usize) -> Result<Counts, Refusal>
     ensures value { result ≡ check_of s.now start }
     ensures adds_up { AddsUp result s.now start }
@@ -53,23 +54,18 @@ pub fn check(s: &[u8], start: usize) -> Result<Counts, Refusal>
     let mut stack: ArrayVec<Open, MAX_DEPTH> = ArrayVec::new();
     let mut n = Counts::default();
     let mut at = start;
+    // By position: what the last step passes over counts too, which an Iterator would not tell.
     loop {
         let scan = iter::scan_at(s, at);
         n.fillers += scan.fillers;
         n.filler_bytes += scan.filler_bytes;
         match scan.step? {
             Next::End(_) => return at_end(n, &stack),
-            Next::Record {
-                kind,
-                index,
-                start: from,
-                len,
-                next,
-            } => {
-                at = next;
+            Next::Record(r) => {
+                at = r.next;
                 n.records += 1;
-                n.bytes += 2 + len;
-                match act_at(kind, &s[from..next], index, &stack)? {
+                n.bytes += 2 + r.len;
+                match act_at(r, &s[r.start..r.next], &stack)? {
                     Act::Stay => {}
                     Act::Push(o) => {
                         stack.push(o);

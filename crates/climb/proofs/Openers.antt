@@ -4,7 +4,7 @@ use Rattle.std.proofs.Common.{ℕ, ◌<◌, ◌≡◌, refl, arith, List, Result
 use Rattle.iter.specs.Step.{scan_of, step_of}
 use Rattle.common.specs.declared.Refusal.{Refusal}
 use Rattle.iter.specs.declared.Next.{Next}
-use Rattle.iter.specs.declared.Next.TheVariants.{End, Record}
+use Rattle.iter.specs.declared.Next.TheVariants as N
 use Rattle.iter.proofs.Reading.{step_fits}
 use Rattle.climb.specs.Opener.{opener_on, opener_of}
 
@@ -15,5 +15,5 @@ opener_fits s at {parent} o = by (scan_of s at).step refl o
   where
     by : (n : Result Next Refusal) → (scan_of s at).step ≡ n → Ok parent ≡ opener_on s at n → at < 4294967296
     by (Err x) e q = cc
-    by (Ok (End p)) e q = cc
-    by (Ok (Record kind index from len next)) e q = omega (arith, step_fits s at index from len next e)
+    by (Ok (N.End p)) e q = cc
+    by (Ok (N.Record it)) e q = omega (arith, step_fits s at it e)

@@ -1,12 +1,13 @@
 -- The opener that a climb stands at (document 01, "Climb finder").
-use Rattle.std.specs.Prelude.{ℕ, List, cond, take, drop, eqb, Option, None, Some, Result, Ok, Err}
+use Rattle.std.specs.Prelude.{ℕ, List, cond, eqb, Option, None, Some, Result, Ok, Err}
 use Rattle.common.specs.declared.Refusal.{Refusal}
 use Rattle.common.specs.declared.Refusal.TheVariants.{UnusableLink, NothingThere}
 use Rattle.constants.specs.declared.Role.{Role}
 use Rattle.constants.specs.declared.Role.TheVariants.{Neither, Opens, Closes}
 use Rattle.iter.specs.Step.{step_of}
+use Rattle.iter.specs.Reading.{bytes_at}
 use Rattle.iter.specs.declared.Next.{Next}
-use Rattle.iter.specs.declared.Next.TheVariants.{End, Record}
+use Rattle.iter.specs.declared.Next.TheVariants as N
 use Rattle.constants.specs.Kind.{nesting_role}
 use Rattle.links.specs.Links.{links_of}
 use Rattle.links.specs.declared.Links.{Links}
@@ -25,9 +26,9 @@ opener_in bytes Neither = Err NothingThere
 -- Step's refusals; 14 if no record is yielded at exactly that position
 abbrev pub opener_on : List ℕ → ℕ → Result Next Refusal → Result ℕ Refusal
 opener_on s at (Err e) = Err e
-opener_on s at (Ok (End p)) = Err NothingThere
-opener_on s at (Ok (Record kind index start len next)) =
-    cond (eqb index at) (opener_in (take len (drop start s)) (nesting_role kind)) (Err NothingThere)
+opener_on s at (Ok (N.End p)) = Err NothingThere
+opener_on s at (Ok (N.Record r)) =
+    cond (eqb r.index at) (opener_in (bytes_at s r) (nesting_role r.kind)) (Err NothingThere)
 
 unfoldable pub opener_of : List ℕ → ℕ → Result ℕ Refusal
 opener_of s at = opener_on s at (step_of s at)

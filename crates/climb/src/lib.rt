@@ -11,7 +11,7 @@ ghost use Rattle.climb.specs.Climb.{climb_on, climb_of};
 use chain::{Chain, Found, MAX_DEPTH};
 use common::Refusal;
 
-/// The climb from an opener, whose parent field is `first`.
+/// The climb from an opener, whose parent field is `first`. (By position, which parent fields are.)
 #[tactic(auto, using(crate::proofs::Openers::opener_fits, crate::proofs::Climbs::at_top, crate::proofs::Climbs::at_full))]
 fn climb_from(s: &[u8], i: usize, first: usize) -> Result<Found, Refusal>
     ensures { result ≡ climb_on 64 s.now i first [] }
@@ -19,6 +19,7 @@ fn climb_from(s: &[u8], i: usize, first: usize) -> Result<Found, Refusal>
     let mut chain = Chain::new();
     let mut index = i;
     let mut parent = first;
+    // By position: each parent field says the next.
     while parent != 0 {
         if MAX_DEPTH <= chain.len() {
             return Err(Refusal::TooDeep(0));

@@ -8,21 +8,21 @@ use records::field::parse_place;
 use records::flags::SeparatedCodeFlags;
 use records::{BlockSymbol, Decoded, SectionOffset, SeparatedCodeSymbol, SymbolData};
 
-pub fn parse_block(mut buf: ParseBuffer, kind: u16) -> Decoded
-    ensures { result ≡ block kind buf.entry.bytes.now buf.entry.pos }
+pub fn parse_block(buf: &mut ParseBuffer, kind: u16) -> Decoded
+    ensures { result ≡ block kind buf.old.bytes.now buf.old.pos }
 {
     let data = BlockSymbol {
         parent: buf.parse()?,
         end: buf.parse()?,
         len: buf.parse()?,
-        offset: parse_place(&mut buf)?,
-        name: parse_symbol_name(&mut buf, kind)?,
+        offset: parse_place(buf)?,
+        name: parse_symbol_name(buf, kind)?,
     };
     Ok((SymbolData::Block(data), buf.pos))
 }
 
-pub fn parse_separated_code(mut buf: ParseBuffer) -> Decoded
-    ensures { result ≡ separated_code buf.entry.bytes.now buf.entry.pos }
+pub fn parse_separated_code(buf: &mut ParseBuffer) -> Decoded
+    ensures { result ≡ separated_code buf.old.bytes.now buf.old.pos }
 {
     let parent = buf.parse()?;
     let end = buf.parse()?;

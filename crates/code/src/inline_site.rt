@@ -19,15 +19,15 @@ pub fn parse_invocations(buf: &mut ParseBuffer, kind: u16) -> Result<Option<u32>
     Ok(Some(buf.parse()?))
 }
 
-pub fn parse_inline_site(mut buf: ParseBuffer, kind: u16) -> Decoded
-    ensures { result ≡ inline_site kind buf.entry.bytes.now buf.entry.pos }
+pub fn parse_inline_site(buf: &mut ParseBuffer, kind: u16) -> Decoded
+    ensures { result ≡ inline_site kind buf.old.bytes.now buf.old.pos }
 {
     let data = InlineSiteSymbol {
-        parent: parse_optional_index(&mut buf)?,
+        parent: parse_optional_index(buf)?,
         end: buf.parse()?,
         inlinee: buf.parse()?,
-        invocations: parse_invocations(&mut buf, kind)?,
-        annotations: names::take_rest(&mut buf),
+        invocations: parse_invocations(buf, kind)?,
+        annotations: names::take_rest(buf),
     };
     Ok((SymbolData::InlineSite(data), buf.pos))
 }

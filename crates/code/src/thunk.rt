@@ -33,24 +33,24 @@ pub fn parse_thunk_kind(buf: &mut ParseBuffer, code: u8) -> Result<ThunkKind, Re
     }
 }
 
-pub fn parse_thunk(mut buf: ParseBuffer, kind: u16) -> Decoded
-    ensures { result ≡ thunk kind buf.entry.bytes.now buf.entry.pos }
+pub fn parse_thunk(buf: &mut ParseBuffer, kind: u16) -> Decoded
+    ensures { result ≡ thunk kind buf.old.bytes.now buf.old.pos }
 {
-    let parent = parse_optional_index(&mut buf)?;
+    let parent = parse_optional_index(buf)?;
     let end = buf.parse()?;
-    let next = parse_optional_index(&mut buf)?;
-    let offset = parse_place(&mut buf)?;
+    let next = parse_optional_index(buf)?;
+    let offset = parse_place(buf)?;
     let len = buf.parse()?;
     // The code of the variant, whose data come behind the name.
     let code = buf.parse()?;
-    let name = parse_symbol_name(&mut buf, kind)?;
+    let name = parse_symbol_name(buf, kind)?;
     let data = ThunkSymbol {
         parent,
         end,
         next,
         offset,
         len,
-        kind: parse_thunk_kind(&mut buf, code)?,
+        kind: parse_thunk_kind(buf, code)?,
         name,
     };
     Ok((SymbolData::Thunk(data), buf.pos))

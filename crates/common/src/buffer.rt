@@ -1,7 +1,7 @@
 // Lent bytes that are read from a position on (pdb's ParseBuffer).
 #![tactic(auto, unfolding(crate::specs::Reader::number))]
 
-ghost use Rattle.std.specs.Prelude.{◌≡◌, drop};
+ghost use Rattle.std.specs.Prelude.{◌≡◌, ◌+◌, drop, length, leb};
 ghost use Rattle.common.specs.Reader.{number};
 ghost use Rattle.common.specs.Buffer.{Reads};
 
@@ -34,11 +34,18 @@ impl<'b> ParseBuffer<'b> {
         &self.bytes[self.pos.min(self.bytes.len())..]
     }
 
+    /// Whether at least n bytes are left to read.
+    pub fn has_room(&self, n: usize) -> bool
+        ensures { result ≡ leb (self.now.pos + n) (length self.now.bytes.now) }
+    {
+        n <= self.bytes.len() && self.pos <= self.bytes.len() - n
+    }
+
     /// Reads a number.
     pub fn parse<T: Number>(&mut self) -> Result<T, Refusal>
         ensures { Reads (number T.SIZE T.of) self.old result self.new }
     {
-        if !crate::has_room(self.bytes, self.pos, T::SIZE) {
+        if !self.has_room(T::SIZE) {
             return Err(Refusal::UnexpectedEof(0));
         }
         let x = T::at(self.bytes, self.pos);

@@ -4,55 +4,68 @@
 pub mod buffer;
 pub mod number;
 
-ghost use Rattle.std.specs.Prelude.{◌≡◌, ◌+◌, length, leb};
+ghost use Rattle.std.specs.Prelude.{◌≡◌};
 ghost use Rattle.common.specs.Refused.{refusal_number, refusal_position, refusal_detail};
 
-use std::error::Error;
-use std::fmt;
+use thiserror::Error;
 
-/// Why a call refuses. A position is 0 where the call names none.
-#[derive(Clone, Copy, Debug, PartialEq, Eq)]
+/// Why a call refuses. A position is 0 where the call names none, as C is told.
+#[derive(Clone, Copy, Debug, PartialEq, Eq, Error)]
 pub enum Refusal {
     /// 1: the bytes run out, at this position.
+    #[error("the bytes run out at {0}")]
     UnexpectedEof(usize),
 
     /// 2: a length is below the two bytes of a kind; the position is behind the length.
+    #[error("a record before {0} has no room for its kind")]
     SymbolTooShort(usize),
 
     /// 3: no layout is known for this kind.
+    #[error("no layout is known for kind {0:#06x}")]
     UnimplementedKind(u16),
 
     /// 4: a numeric value begins with this unknown prefix.
+    #[error("a numeric value has the unknown prefix {0:#06x}")]
     UnexpectedNumericPrefix(u16),
 
     /// 5: a stream or a record is longer than any that is read.
+    #[error("longer than any stream or record that is read")]
     TooLong,
 
     /// 6: decode refuses the opener at this position.
+    #[error("the opener at {0} can't be decoded")]
     UnreadableOpener(usize),
 
     /// 7: an opener stands at position 0, which means none.
+    #[error("an opener stands at position 0")]
     OpenerAt0,
 
     /// 8: the parent field of the opener at this position is not the innermost open scope.
+    #[error("the parent of the opener at {0} is not the innermost scope")]
     WrongParent(usize),
 
     /// 9: more than 64 scopes lie in one another; the opener that is one too many, where the call names it.
+    #[error("too many scopes lie in one another at {0}")]
     TooDeep(usize),
 
     /// 10: a closer finds nothing open; its position, where the call names it.
+    #[error("the closer at {0} finds nothing open")]
     NothingOpen(usize),
 
     /// 11: the closer at this position is not where its opener's end field says.
+    #[error("the closer at {0} is not where its opener says")]
     WrongEnd(usize),
 
     /// 12: the stream's end leaves the scope at this position open.
+    #[error("the scope at {0} is left open")]
     LeftOpen(usize),
 
     /// 13: a link can't be followed.
+    #[error("a link can't be followed")]
     UnusableLink,
 
     /// 14: no record, opener, register list or entry stands there.
+    #[error("nothing of the kind stands there")]
     NothingThere,
 }
 
@@ -106,45 +119,4 @@ impl Refusal {
             _ => 0,
         }
     }
-}
-
-impl fmt::Display for Refusal {
-    fn fmt<W: fmt::Write>(&self, f: &mut fmt::Formatter<W>) -> fmt::Result {
-        match self {
-            Refusal::UnexpectedEof(at) => write!(f, "the bytes run out at {at}"),
-            Refusal::SymbolTooShort(at) => write!(
-                f,
-                "a record before {at} has no room for its kind"
-            ),
-            Refusal::UnimplementedKind(kind) => write!(
-                f,
-                "no layout is known for kind {kind:#06x}"
-            ),
-            Refusal::UnexpectedNumericPrefix(prefix) => {
-                write!(f, "a numeric value has the unknown prefix {prefix:#06x}")
-            }
-            Refusal::TooLong => write!(f, "longer than any stream or record that is read"),
-            Refusal::UnreadableOpener(at) => write!(f, "the opener at {at} can't be decoded"),
-            Refusal::OpenerAt0 => write!(f, "an opener stands at position 0"),
-            Refusal::WrongParent(at) => write!(
-                f,
-                "the parent of the opener at {at} is not the innermost scope"
-            ),
-            Refusal::TooDeep(at) => write!(f, "too many scopes lie in one another at {at}"),
-            Refusal::NothingOpen(at) => write!(f, "the closer at {at} finds nothing open"),
-            Refusal::WrongEnd(at) => write!(f, "the closer at {at} is not where its opener says"),
-            Refusal::LeftOpen(at) => write!(f, "the scope at {at} is left open"),
-            Refusal::UnusableLink => write!(f, "a link can't be followed"),
-            Refusal::NothingThere => write!(f, "nothing of the kind stands there"),
-        }
-    }
-}
-
-impl Error for Refusal {}
-
-/// Whether n bytes stand at a position.
-pub fn has_room(s: &[u8], at: usize, n: usize) -> bool
-    ensures { result ≡ leb (at + n) (length s.now) }
-{
-    n <= s.len() && at <= s.len() - n
 }

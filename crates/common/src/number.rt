@@ -15,7 +15,7 @@ pub trait Number: Copy {
     /// How many bytes it takes.
     const SIZE: usize;
 
-    /// The number at a position.
+    /// The number at a position. (By position, without a buffer, for callers that have shown the room.)
     fn at(s: &[u8], at: usize) -> Self
         requires { at + SIZE ≤ length s.now }
         ensures { result ≡ of (le SIZE s.now at) };

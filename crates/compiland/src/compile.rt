@@ -23,8 +23,8 @@ fn parse_version(buf: &mut ParseBuffer, compile3: bool) -> Result<CompilerVersio
     })
 }
 
-pub fn parse_compile_flags(mut buf: ParseBuffer, kind: u16) -> Decoded
-    ensures { result ≡ compile kind buf.entry.bytes.now buf.entry.pos }
+pub fn parse_compile_flags(buf: &mut ParseBuffer, kind: u16) -> Decoded
+    ensures { result ≡ compile kind buf.old.bytes.now buf.old.pos }
 {
     let compile3 = kind == S_COMPILE3;
     let language = source_language(buf.parse()?);
@@ -34,9 +34,9 @@ pub fn parse_compile_flags(mut buf: ParseBuffer, kind: u16) -> Decoded
         language,
         flags,
         cpu_type: cpu_type(buf.parse()?),
-        frontend_version: parse_version(&mut buf, compile3)?,
-        backend_version: parse_version(&mut buf, compile3)?,
-        version_string: parse_symbol_name(&mut buf, kind)?,
+        frontend_version: parse_version(buf, compile3)?,
+        backend_version: parse_version(buf, compile3)?,
+        version_string: parse_symbol_name(buf, kind)?,
     };
     Ok((SymbolData::CompileFlags(data), buf.pos))
 }

@@ -11,30 +11,30 @@ use records::{
     TrampolineType,
 };
 
-pub fn parse_public(mut buf: ParseBuffer, kind: u16) -> Decoded
-    ensures { result ≡ public_symbol kind buf.entry.bytes.now buf.entry.pos }
+pub fn parse_public(buf: &mut ParseBuffer, kind: u16) -> Decoded
+    ensures { result ≡ public_symbol kind buf.old.bytes.now buf.old.pos }
 {
     let data = PublicSymbol {
         flags: PublicFlags::from(buf.parse::<u32>()?),
-        offset: parse_place(&mut buf)?,
-        name: parse_symbol_name(&mut buf, kind)?,
+        offset: parse_place(buf)?,
+        name: parse_symbol_name(buf, kind)?,
     };
     Ok((SymbolData::Public(data), buf.pos))
 }
 
-pub fn parse_export(mut buf: ParseBuffer, kind: u16) -> Decoded
-    ensures { result ≡ export_symbol kind buf.entry.bytes.now buf.entry.pos }
+pub fn parse_export(buf: &mut ParseBuffer, kind: u16) -> Decoded
+    ensures { result ≡ export_symbol kind buf.old.bytes.now buf.old.pos }
 {
     let data = ExportSymbol {
         ordinal: buf.parse()?,
         flags: ExportSymbolFlags::from(buf.parse::<u16>()?),
-        name: parse_symbol_name(&mut buf, kind)?,
+        name: parse_symbol_name(buf, kind)?,
     };
     Ok((SymbolData::Export(data), buf.pos))
 }
 
-pub fn parse_trampoline(mut buf: ParseBuffer) -> Decoded
-    ensures { result ≡ trampoline buf.entry.bytes.now buf.entry.pos }
+pub fn parse_trampoline(buf: &mut ParseBuffer) -> Decoded
+    ensures { result ≡ trampoline buf.old.bytes.now buf.old.pos }
 {
     let tramp_type = TrampolineType::from(buf.parse::<u16>()?);
     let size = buf.parse()?;

@@ -22,39 +22,39 @@ pub fn parse_optional_name(buf: &mut ParseBuffer, kind: u16) -> Result<Option<Pa
     Ok(Some(parse_cstring(buf)?))
 }
 
-pub fn parse_procedure_reference(mut buf: ParseBuffer, kind: u16) -> Decoded
-    ensures { result ≡ procedure_reference kind buf.entry.bytes.now buf.entry.pos }
+pub fn parse_procedure_reference(buf: &mut ParseBuffer, kind: u16) -> Decoded
+    ensures { result ≡ procedure_reference kind buf.old.bytes.now buf.old.pos }
 {
     let data = ProcedureReferenceSymbol {
         global: matches!(kind, S_PROCREF | S_PROCREF_ST),
         sum_name: buf.parse()?,
         symbol_index: buf.parse()?,
-        module: parse_module(&mut buf)?,
-        name: parse_optional_name(&mut buf, kind)?,
+        module: parse_module(buf)?,
+        name: parse_optional_name(buf, kind)?,
     };
     Ok((SymbolData::ProcedureReference(data), buf.pos))
 }
 
-pub fn parse_data_reference(mut buf: ParseBuffer, kind: u16) -> Decoded
-    ensures { result ≡ data_reference kind buf.entry.bytes.now buf.entry.pos }
+pub fn parse_data_reference(buf: &mut ParseBuffer, kind: u16) -> Decoded
+    ensures { result ≡ data_reference kind buf.old.bytes.now buf.old.pos }
 {
     let data = DataReferenceSymbol {
         sum_name: buf.parse()?,
         symbol_index: buf.parse()?,
-        module: parse_module(&mut buf)?,
-        name: parse_optional_name(&mut buf, kind)?,
+        module: parse_module(buf)?,
+        name: parse_optional_name(buf, kind)?,
     };
     Ok((SymbolData::DataReference(data), buf.pos))
 }
 
-pub fn parse_annotation_reference(mut buf: ParseBuffer, kind: u16) -> Decoded
-    ensures { result ≡ annotation_reference kind buf.entry.bytes.now buf.entry.pos }
+pub fn parse_annotation_reference(buf: &mut ParseBuffer, kind: u16) -> Decoded
+    ensures { result ≡ annotation_reference kind buf.old.bytes.now buf.old.pos }
 {
     let data = AnnotationReferenceSymbol {
         sum_name: buf.parse()?,
         symbol_index: buf.parse()?,
-        module: parse_module(&mut buf)?,
-        name: parse_symbol_name(&mut buf, kind)?,
+        module: parse_module(buf)?,
+        name: parse_symbol_name(buf, kind)?,
     };
     Ok((SymbolData::AnnotationReference(data), buf.pos))
 }

@@ -10,7 +10,7 @@ mod table;
 ghost use Rattle.std.specs.Prelude.{◌≡◌};
 ghost use Rattle.constants.specs.Kind.{class_of, role_of, nesting_role, is_filler, class_number};
 
-// The kinds by which records of one class, or of none, are told apart, as cvinfo.h names them.
+// The kinds by which records of one class, or of none, are told apart, as cvinfo.h names them. (Numbers, as in pdb: a file may have others.)
 
 /// Alignment to a page.
 pub const S_ALIGN: u16 = 0x0402;

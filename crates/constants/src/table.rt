@@ -9,6 +9,7 @@ use super::Role::*;
 use super::{Class, Role};
 
 /// The kinds below 0x1000.
+#[inline(always)]
 fn old_entry(kind: u16) -> (Class, Role)
     requires { kind < 0x1000 }
     ensures { result ≡ (class_of kind, role_of kind) }
@@ -33,6 +34,7 @@ fn old_entry(kind: u16) -> (Class, Role)
 }
 
 /// The kinds from 0x1000 on whose names begin with their length.
+#[inline(always)]
 fn st_entry(kind: u16) -> (Class, Role)
     requires from { 0x1000 ≤ kind }
     requires below { kind < 0x1100 }
@@ -67,6 +69,7 @@ fn st_entry(kind: u16) -> (Class, Role)
 }
 
 /// The kinds whose names end at a zero. (Longer than other functions, since it is a list.)
+#[inline(always)]
 fn new_entry(kind: u16) -> (Class, Role)
     requires { 0x1100 ≤ kind }
     ensures { result ≡ (class_of kind, role_of kind) }
@@ -128,6 +131,7 @@ fn new_entry(kind: u16) -> (Class, Role)
 
 /// The class and the role of any kind. (Three lists, since the back end makes a table of a `match` whose numbers lie close together; of
 /// one list it makes a search, and finding the class takes twice as long where kinds can't be foretold.)
+#[inline(always)]
 pub fn entry(kind: u16) -> (Class, Role)
     ensures { result ≡ (class_of kind, role_of kind) }
 {

@@ -11,8 +11,8 @@ use names::parse_symbol_name;
 use records::field::parse_place;
 use records::{DataSymbol, Decoded, SymbolData, ThreadStorageSymbol};
 
-pub fn parse_data(mut buf: ParseBuffer, kind: u16) -> Decoded
-    ensures { result ≡ data_item kind buf.entry.bytes.now buf.entry.pos }
+pub fn parse_data(buf: &mut ParseBuffer, kind: u16) -> Decoded
+    ensures { result ≡ data_item kind buf.old.bytes.now buf.old.pos }
 {
     let data = DataSymbol {
         global: matches!(kind, S_GDATA32 | S_GDATA32_ST | S_GMANDATA | S_GMANDATA_ST),
@@ -21,20 +21,20 @@ pub fn parse_data(mut buf: ParseBuffer, kind: u16) -> Decoded
             S_LMANDATA | S_LMANDATA_ST | S_GMANDATA | S_GMANDATA_ST
         ),
         type_index: buf.parse()?,
-        offset: parse_place(&mut buf)?,
-        name: parse_symbol_name(&mut buf, kind)?,
+        offset: parse_place(buf)?,
+        name: parse_symbol_name(buf, kind)?,
     };
     Ok((SymbolData::Data(data), buf.pos))
 }
 
-pub fn parse_thread_storage(mut buf: ParseBuffer, kind: u16) -> Decoded
-    ensures { result ≡ thread_storage kind buf.entry.bytes.now buf.entry.pos }
+pub fn parse_thread_storage(buf: &mut ParseBuffer, kind: u16) -> Decoded
+    ensures { result ≡ thread_storage kind buf.old.bytes.now buf.old.pos }
 {
     let data = ThreadStorageSymbol {
         global: matches!(kind, S_GTHREAD32 | S_GTHREAD32_ST),
         type_index: buf.parse()?,
-        offset: parse_place(&mut buf)?,
-        name: parse_symbol_name(&mut buf, kind)?,
+        offset: parse_place(buf)?,
+        name: parse_symbol_name(buf, kind)?,
     };
     Ok((SymbolData::ThreadStorage(data), buf.pos))
 }

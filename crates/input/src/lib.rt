@@ -7,7 +7,8 @@ ghost use Rattle.std.specs.Io.KnownBytes.{Consumes, IsAtEnd};
 use std::io::{self, Read};
 
 /// Reads until the lent bytes are full or the reader ends, and answers how many bytes were read: the reader's next ones, from the first
-/// lent place on. (A loop, since std's `read_exact` refuses where the reader ends early, and `read_to_end` wants a heap.)
+/// lent place on. (A loop: std's `read_exact` refuses where
+/// the reader ends early, `read_to_end` wants a heap, and the contract of `io::copy` into a slice says nothing of its bytes.)
 pub fn read_full<R: Read>(reader: &mut R, bytes: &mut [u8]) -> io::Result<usize>
     ensures fits { IfOk result (λ n. n ≤ length bytes.new) }
     ensures next { IfOk result (λ n. Consumes (R.remaining reader.old) (R.remaining reader.new) (take n bytes.new)) }

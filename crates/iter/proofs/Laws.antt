@@ -5,10 +5,10 @@ use Rattle.std.proofs.lemmas.Grind.{common_steps}
 use Rattle.common.specs.Bytes.{le}
 use Rattle.common.specs.declared.Refusal.{Refusal}
 use Rattle.constants.specs.Kind.{is_filler}
-use Rattle.iter.specs.Step.{frame_at, plain, pass_over, on_frame, scan_from}
+use Rattle.iter.specs.Step.{frame_at, plain, framed, pass_over, on_frame, scan_from}
 use Rattle.iter.specs.declared.Frame.{Frame}
 use Rattle.iter.specs.declared.Scan.{Scan}
-use Rattle.iter.specs.declared.Next.TheVariants.{End, Record}
+use Rattle.iter.specs.declared.Next.TheVariants as N
 
 -- a whole frame lies within the stream, and its record has at least two bytes
 pub record Fits (s : List ℕ) (p : ℕ) (f : Frame) : Type 0 where
@@ -50,9 +50,9 @@ passes s p fillers bytes r f ef ek h =
 -- What is shown of every scan by what stands at its first position: nothing, no whole record, a record that it yields, or a filler.
 module _
     (s : List ℕ) (P : ℕ → Scan → Type 0)
-    (at_end : (p : ℕ) → p ≡ length s → P p (plain (Ok (End p))))
+    (at_end : (p : ℕ) → p ≡ length s → P p (plain (Ok (N.End p))))
     (at_refusal : (p : ℕ) (e : Refusal) → p ≤ length s → P p (plain (Err e)))
-    (at_record : (p : ℕ) (f : Frame) → Fits s p f → frame_at s p ≡ Ok (Some f) → is_filler f.kind ≡ false → P p (plain (Ok (Record f.kind p (p + 2) f.len (p + 2 + f.len)))))
+    (at_record : (p : ℕ) (f : Frame) → Fits s p f → frame_at s p ≡ Ok (Some f) → is_filler f.kind ≡ false → P p (plain (Ok (N.Record (framed p f)))))
     (at_filler : (p : ℕ) (f : Frame) (c : Scan) → Fits s p f → P (p + 2 + f.len) c → P p (pass_over f.len c))
   where
     at-frame : (p : ℕ) (on : ℕ → Scan) → p ≤ length s → ((f : Frame) → Fits s p f → P (p + 2 + f.len) (on (p + 2 + f.len))) →
@@ -61,7 +61,7 @@ module _
     at-frame p on h ih (Err r) e w = at_refusal p r h
     at-frame p on h ih (Ok (Some f)) e w = go (is_filler f.kind) refl
       where
-        go : (b : Bool) → is_filler f.kind ≡ b → P p (cond b (pass_over f.len (on (p + 2 + f.len))) (plain (Ok (Record f.kind p (p + 2) f.len (p + 2 + f.len)))))
+        go : (b : Bool) → is_filler f.kind ≡ b → P p (cond b (pass_over f.len (on (p + 2 + f.len))) (plain (Ok (N.Record (framed p f)))))
         go true k = at_filler p f (on (p + 2 + f.len)) w (ih f w)
         go false k = at_record p f w e k
 

@@ -1,3 +1,4 @@
+pub mod Later
 pub mod Laws
 pub mod Reading
 pub mod Records

@@ -1,31 +1,33 @@
 -- Laws of `scan_of` that callers use, and of `read_of`: no fuel is left in them.
 -- Assumes nothing.
-use Rattle.std.proofs.Common.{ℕ, zero, suc, ◌+◌, ◌≤◌, ◌<◌, ◌≡◌, refl, sym, ap, ◌∙◌, add-zero, arith, List, length, Bool, true, false, cond, Some, Result, Ok, Err}
+use Rattle.std.proofs.Common.{ℕ, suc, ◌+◌, ◌≤◌, ◌<◌, ◌≡◌, refl, sym, ap, ◌∙◌, add-zero, arith, List, length, Bool, true, false, cond, Some, Result, Ok, Err}
 use Rattle.std.proofs.lemmas.Grind.{common_steps}
 use Rattle.std.specs.Prelude.{ltb}
 use Rattle.common.specs.declared.Refusal.{Refusal}
 use Rattle.common.specs.declared.Refusal.TheVariants.{TooLong}
 use Rattle.constants.specs.Kind.{is_filler}
 use Rattle.iter.specs.Step.{frame_at, plain, scan_from, within, scan_of, step_of}
-use Rattle.iter.specs.Reading.{rec_at, more, on_next, read_from, read_of}
+use Rattle.iter.specs.Reading.{Reading, rec_at, more, on_next, read_from, read_of}
 use Rattle.iter.specs.declared.Scan.{Scan}
 use Rattle.iter.specs.declared.Next.{Next}
-use Rattle.iter.specs.declared.Next.TheVariants.{End, Record}
+use Rattle.iter.specs.declared.Record.{Record}
+use Rattle.iter.specs.declared.Next.TheVariants as N
+use Rattle.iter.proofs.Later.{unroll}
 use Rattle.iter.proofs.Laws.{Fits, scan-ind}
 
 -- A record that is yielded at p: what stands there is no filler, and its bytes are behind its length field.
-pub record Own (s : List ℕ) (p kind index start len next : ℕ) : Type 0 where
-  pub here : p ≡ index
-  pub starts : start ≡ index + 2
-  pub ends : next ≡ start + len
-  pub frame : frame_at s index ≡ Ok (Some (record { kind = kind; len = len }))
-  pub fits : Fits s index (record { kind = kind; len = len })
-  pub kept : is_filler kind ≡ false
+pub record Own (s : List ℕ) (p : ℕ) (it : Record) : Type 0 where
+  pub here : p ≡ it.index
+  pub starts : it.start ≡ it.index + 2
+  pub ends : it.next ≡ it.start + it.len
+  pub frame : frame_at s it.index ≡ Ok (Some (record { kind = it.kind; len = it.len }))
+  pub fits : Fits s it.index (record { kind = it.kind; len = it.len })
+  pub kept : is_filler it.kind ≡ false
 
 -- where a step that ends at p does so: at the end of the stream, in a refusal or at a record
 abbrev pub Stops : List ℕ → ℕ → Result Next Refusal → Type 0
-Stops s p (Ok (End q)) = (p ≡ q) × (q ≡ length s)
-Stops s p (Ok (Record kind index start len next)) = Own s p kind index start len next
+Stops s p (Ok (N.End q)) = (p ≡ q) × (q ≡ length s)
+Stops s p (Ok (N.Record it)) = Own s p it
 Stops s p (Err e) = Unit
 
 -- The bytes passed over end where the step stops, and each record passed over has bytes.
@@ -57,64 +59,54 @@ fillers_of s at = go (ltb 4294967295 (length s))
     go false = fillers_from s (suc (length s)) (within s at) inside (omega arith)
 
 -- what holds of a record that a step yields
-pub record Stepped (s : List ℕ) (at index start len next : ℕ) : Type 0 where
+pub record Stepped (s : List ℕ) (at : ℕ) (it : Record) : Type 0 where
   pub small : length s ≤ 4294967295
-  pub from : at ≤ index
-  pub starts : start ≡ index + 2
-  pub least : 2 ≤ len
-  pub ends : next ≡ start + len
-  pub within : next ≤ length s
+  pub from : at ≤ it.index
+  pub starts : it.start ≡ it.index + 2
+  pub least : 2 ≤ it.len
+  pub ends : it.next ≡ it.start + it.len
+  pub within : it.next ≤ length s
 
 -- what a step answered, of the scan that it ends
 pub step_is : (s : List ℕ) (at : ℕ) {answer m : Result Next Refusal} → answer ≡ step_of s at → answer ≡ m → (scan_of s at).step ≡ m
 unfolding step_of
 step_is s at e is = sym e ∙ is
 
-pub end_is : (s : List ℕ) (at q : ℕ) → (scan_of s at).step ≡ Ok (End q) → q ≡ length s
-end_is s at q e = let k : Stops s (within s at + (scan_of s at).filler_bytes) (Ok (End q)) = rw e at (fillers_of s at).stops in k.1
+pub end_is : (s : List ℕ) (at q : ℕ) → (scan_of s at).step ≡ Ok (N.End q) → q ≡ length s
+end_is s at q e = let k : Stops s (within s at + (scan_of s at).filler_bytes) (Ok (N.End q)) = rw e at (fillers_of s at).stops in k.1
 
 small : (s : List ℕ) (at : ℕ) {n : Next} → (scan_of s at).step ≡ Ok n → length s ≤ 4294967295
 unfolding scan_of
 small s at e = grind (arith, common_steps)
 
-module _ (s : List ℕ) (at index start len next : ℕ) {kind : ℕ} (e : (scan_of s at).step ≡ Ok (Record kind index start len next)) where
-  pub own : Own s (within s at + (scan_of s at).filler_bytes) kind index start len next
+module _ (s : List ℕ) (at : ℕ) (it : Record) (e : (scan_of s at).step ≡ Ok (N.Record it)) where
+  pub own : Own s (within s at + (scan_of s at).filler_bytes) it
   own = rw e at (fillers_of s at).stops
 
   -- a record that a step yields begins behind what the step passed over
-  pub fillers_to : at + (scan_of s at).filler_bytes ≡ index
+  pub fillers_to : at + (scan_of s at).filler_bytes ≡ it.index
   fillers_to = grind (arith, common_steps, own.here, own.fits.within)
 
-  pub step_fits : Stepped s at index start len next
+  pub step_fits : Stepped s at it
   step_fits = record { small = small s at e; from = omega (arith, fillers_to); starts = own.starts; least = own.fits.least; ends = own.ends; within = omega (arith, own) }
 
   -- a step from a yielded record's own index yields that record, and passes nothing over
-  pub again : scan_of s index ≡ plain (Ok (Record kind index start len next))
+  pub again : scan_of s it.index ≡ plain (Ok (N.Record it))
   unfolding scan_of scan_from
   again = grind (arith, common_steps, own, step_fits)
 
 module _ (s : List ℕ) where
-  -- enough fuel is as good as any
-  same_step : (k j at : ℕ) →
-      ((q : ℕ) → q ≤ length s → length s < q + k → length s < q + j → read_from k s q ≡ read_from j s q) →
-      length s ≤ at + k → length s ≤ at + j →
-      (n : Result Next Refusal) → (scan_of s at).step ≡ n →
-      on_next s (scan_of s at) n (read_from k s) ≡ on_next s (scan_of s at) n (read_from j s)
-  same_step k j at ih hk hj (Ok (End p)) e = refl
-  same_step k j at ih hk hj (Ok (Record kind index start len next)) e =
-      let y = step_fits s at index start len next e in
-      ap (more (rec_at s (scan_of s at) index start len)) (ih next (omega arith) (omega arith) (omega arith))
-  same_step k j at ih hk hj (Err r) e = refl
-
-  same : (k j at : ℕ) → at ≤ length s → length s < at + k → length s < at + j → read_from k s at ≡ read_from j s at
-  unfolding read_from
-  same zero j at h hk hj = absurd (omega arith)
-  same (suc k) zero at h hk hj = absurd (omega arith)
-  same (suc k) (suc j) at h hk hj = same_step k j at (same k j) (omega arith) (omega arith) (scan_of s at).step refl
+  -- what a step yields is behind it, so that the reading goes on at later positions alone
+  later : (at : ℕ) (f g : ℕ → Reading) → ((q : ℕ) → at < q → q ≤ length s → f q ≡ g q) → (n : Result Next Refusal) → (scan_of s at).step ≡ n →
+      on_next s (scan_of s at) n f ≡ on_next s (scan_of s at) n g
+  later at f g h (Ok (N.End p)) e = refl
+  later at f g h (Ok (N.Record it)) e = let y = step_fits s at it e in ap (more (rec_at s (scan_of s at) it)) (h it.next (omega arith) (omega arith))
+  later at f g h (Err r) e = refl
 
   -- the reading, by what the step says
   pub read_by : (at : ℕ) (n : Result Next Refusal) → (scan_of s at).step ≡ n → read_of s at ≡ on_next s (scan_of s at) n (read_of s)
   unfolding read_from read_of
   read_by at n e =
-      ap (λ m. on_next s (scan_of s at) m (read_from (length s) s)) e
-      ∙ same_step (length s) (suc (length s)) at (same (length s) (suc (length s))) (omega arith) (omega arith) n e
+      unroll (length s) (λ k q. read_from k s q) (λ f q. on_next s (scan_of s q) (scan_of s q).step f) (λ k q. refl)
+      (λ q f g h. later q f g h (scan_of s q).step refl) at
+      ∙ ap (λ m. on_next s (scan_of s at) m (read_of s)) e

@@ -5,7 +5,8 @@ use Rattle.common.specs.declared.Refusal.{Refusal}
 use Rattle.iter.specs.Step.{scan_of}
 use Rattle.iter.specs.declared.Scan.{Scan}
 use Rattle.iter.specs.declared.Next.{Next}
-use Rattle.iter.specs.declared.Next.TheVariants.{End, Record}
+use Rattle.iter.specs.declared.Record.{Record}
+use Rattle.iter.specs.declared.Next.TheVariants as N
 
 -- a yielded record: the position of its length field, its bytes, and the fillers that its step passed over, with their bytes
 pub record Rec : Type 0 where
@@ -30,8 +31,12 @@ pub record Reading : Type 0 where
   pub recs : List Rec
   pub last : Last
 
-abbrev pub rec_at : List ℕ → Scan → ℕ → ℕ → ℕ → Rec
-rec_at s c index start len = record { index = index; bytes = take len (drop start s); fillers = c.fillers; filler_bytes = c.filler_bytes }
+-- the bytes of a record in the stream
+abbrev pub bytes_at : List ℕ → Record → List ℕ
+bytes_at s r = take r.len (drop r.start s)
+
+abbrev pub rec_at : List ℕ → Scan → Record → Rec
+rec_at s c r = record { index = r.index; bytes = bytes_at s r; fillers = c.fillers; filler_bytes = c.filler_bytes }
 
 abbrev pub ended : ℕ → ℕ → Ending → Reading
 ended fillers fillerBytes e = record { recs = []; last = record { fillers = fillers; filler_bytes = fillerBytes; ending = e } }
@@ -40,8 +45,8 @@ abbrev pub more : Rec → Reading → Reading
 more r rest = record { recs = r ∷ rest.recs; last = rest.last }
 
 abbrev pub on_next : List ℕ → Scan → Result Next Refusal → (ℕ → Reading) → Reading
-on_next s c (Ok (End p)) on = ended c.fillers c.filler_bytes ends
-on_next s c (Ok (Record kind index start len next)) on = more (rec_at s c index start len) (on next)
+on_next s c (Ok (N.End p)) on = ended c.fillers c.filler_bytes ends
+on_next s c (Ok (N.Record r)) on = more (rec_at s c r) (on r.next)
 on_next s c (Err e) on = ended c.fillers c.filler_bytes (refuses e)
 
 -- The reading from a position, where at most k steps follow. (Where k runs out it ends; that `read_of` never does so early is the law

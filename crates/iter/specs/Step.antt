@@ -6,8 +6,9 @@ use Rattle.common.specs.declared.Refusal.TheVariants.{UnexpectedEof, SymbolTooSh
 use Rattle.constants.specs.Kind.{is_filler}
 use Rattle.iter.specs.declared.Frame.{Frame}
 use Rattle.iter.specs.declared.Scan.{Scan}
+use Rattle.iter.specs.declared.Record.{Record}
 use Rattle.iter.specs.declared.Next.{Next}
-use Rattle.iter.specs.declared.Next.TheVariants.{End, Record}
+use Rattle.iter.specs.declared.Next.TheVariants as N
 
 -- With no byte left, nothing. Else a u16 length is read: 1 at the unmoved position if one byte is left; 2, position after the
 -- length, if it is below 2; 1, position after the length, if fewer bytes follow.
@@ -26,20 +27,24 @@ plain n = record { fillers = 0; filler_bytes = 0; step = n }
 abbrev pub pass_over : ℕ → Scan → Scan
 pass_over len c = record { fillers = c.fillers + 1; filler_bytes = c.filler_bytes + (2 + len); step = c.step }
 
--- fillers are passed over and reading goes on (`on`); otherwise: the kind, index, the record's bytes, next position
+-- the record of a frame: the kind, index, the record's bytes, next position
+abbrev pub framed : ℕ → Frame → Record
+framed p f = record { kind = f.kind; index = p; start = p + 2; len = f.len; next = p + 2 + f.len }
+
+-- fillers are passed over and reading goes on (`on`); otherwise the record
 abbrev pub on_record : ℕ → Frame → (ℕ → Scan) → Scan
 on_record p f on =
-    cond (is_filler f.kind) (pass_over f.len (on (p + 2 + f.len))) (plain (Ok (Record f.kind p (p + 2) f.len (p + 2 + f.len))))
+    cond (is_filler f.kind) (pass_over f.len (on (p + 2 + f.len))) (plain (Ok (N.Record (framed p f))))
 
 abbrev pub on_frame : ℕ → Result (Option Frame) Refusal → (ℕ → Scan) → Scan
-on_frame p (Ok None) on = plain (Ok (End p))
+on_frame p (Ok None) on = plain (Ok (N.End p))
 on_frame p (Ok (Some f)) on = on_record p f on
 on_frame p (Err e) on = plain (Err e)
 
 -- A step from p, where at most k records follow. (Where k runs out it answers End; that `scan_of` never does so early is the law `end_is` of
 -- proofs/Reading.antt: End is answered at the end of the stream alone.)
 unfoldable pub scan_from : ℕ → List ℕ → ℕ → Scan
-scan_from zero s p = plain (Ok (End p))
+scan_from zero s p = plain (Ok (N.End p))
 scan_from (suc k) s p = on_frame p (frame_at s p) (λ q. scan_from k s q)
 
 -- A position past the end becomes the end.

@@ -1,4 +1,7 @@
 // Reading a stream of records one step at a time (pdb's SymbolIter: seek, then next).
+//
+// A step is asked by a position, as C asks, and keeps none for the next; so are the calls that are made of steps. It makes no Iterator: the check counts what the last step passes
+// over, the jump finder goes on behind a closer, and the climb finder goes by parent fields.
 #![tactic(auto, unfolding(crate::specs::Step::frame_at, crate::specs::Step::scan_of, crate::specs::Step::step_of))]
 
 ghost use Rattle.std.specs.Prelude.{◌≡◌, suc, ◌≤◌, length};
@@ -20,7 +23,7 @@ pub struct Frame {
     pub len: usize,
 }
 
-/// The record at a position, and none where no byte is left.
+/// The record at a position, as a step is asked by it, and none where no byte is left.
 fn frame_at(s: &[u8], at: usize) -> Result<Option<Frame>, Refusal>
     ensures { result ≡ frame_at s.now at }
 {
@@ -43,29 +46,33 @@ fn frame_at(s: &[u8], at: usize) -> Result<Option<Frame>, Refusal>
     Ok(Some(Frame { kind, len }))
 }
 
+/// A record that a step yields.
+#[derive(Clone, Copy, Debug, PartialEq, Eq)]
+pub struct Record {
+    /// Its kind.
+    pub kind: u16,
+
+    /// The position of its length field.
+    pub index: usize,
+
+    /// Where its bytes start, kind first.
+    pub start: usize,
+
+    /// How many they are.
+    pub len: usize,
+
+    /// The position after it.
+    pub next: usize,
+}
+
 /// Where a step ends.
 #[derive(Clone, Copy, Debug, PartialEq, Eq)]
 pub enum Next {
     /// At the end of the stream, which is this position.
     End(usize),
 
-    /// At a record.
-    Record {
-        /// Its kind.
-        kind: u16,
-
-        /// The position of its length field.
-        index: usize,
-
-        /// Where its bytes start, kind first.
-        start: usize,
-
-        /// How many they are.
-        len: usize,
-
-        /// The position after it.
-        next: usize,
-    },
+    /// At this record.
+    Record(Record),
 }
 
 /// A step, with what it passed over.
@@ -81,7 +88,7 @@ pub struct Scan {
     pub step: Result<Next, Refusal>,
 }
 
-/// The step from a position within the stream.
+/// The step from a position within the stream. (By position, as `step`.)
 #[tactic(auto, using(crate::proofs::Laws::stands), unfolding(crate::specs::Step::scan_from))]
 fn scan_within(s: &[u8], from: usize) -> Scan
     requires { from ≤ length s.now }
@@ -90,6 +97,7 @@ fn scan_within(s: &[u8], from: usize) -> Scan
     let mut p = from;
     let mut fillers = 0;
     let mut filler_bytes = 0;
+    // No Iterator: this is what one would be made of.
     let step = loop {
         match frame_at(s, p) {
             Err(e) => break Err(e),
@@ -98,13 +106,13 @@ fn scan_within(s: &[u8], from: usize) -> Scan
                 let start = p + 2;
                 let next = start + len;
                 if !constants::is_filler(kind) {
-                    break Ok(Next::Record {
+                    break Ok(Next::Record(Record {
                         kind,
                         index: p,
                         start,
                         len,
                         next,
-                    });
+                    }));
                 }
                 p = next;
                 fillers += 1;
@@ -119,7 +127,7 @@ fn scan_within(s: &[u8], from: usize) -> Scan
     }
 }
 
-/// One step from a position, with what it passed over.
+/// One step from a position, as `step`, with what it passed over.
 pub fn scan_at(s: &[u8], at: usize) -> Scan
     ensures { result ≡ scan_of s.now at }
 {
@@ -134,7 +142,7 @@ pub fn scan_at(s: &[u8], at: usize) -> Scan
     scan_within(s, at.min(n))
 }
 
-/// One step from a position.
+/// One step from a position, by which C asks for it.
 pub fn step(s: &[u8], at: usize) -> Result<Next, Refusal>
     ensures { result ≡ step_of s.now at }
 {

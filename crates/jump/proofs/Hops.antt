@@ -7,7 +7,7 @@ use Rattle.constants.specs.Raw.{nesting_role_of}
 use Rattle.constants.specs.declared.Role.{Role}
 use Rattle.iter.specs.Step.{scan_of}
 use Rattle.iter.specs.declared.Next.{Next}
-use Rattle.iter.specs.declared.Next.TheVariants.{End, Record}
+use Rattle.iter.specs.declared.Next.TheVariants as N
 use Rattle.iter.proofs.Reading.{step_fits}
 use Rattle.jump.specs.declared.hop.Hop.TheVariants as H
 use Rattle.jump.specs.Hop.{role_hop, hop_of, land_on, land_of}
@@ -34,10 +34,10 @@ pub record Lands (s : List ℕ) (end after : ℕ) : Type 0 where
 
 land_on_lem : (s : List ℕ) (end after : ℕ) (n : Result Next Refusal) → (scan_of s end).step ≡ n → Ok after ≡ land_on end n → Lands s end after
 land_on_lem s end after (Err x) e q = cc
-land_on_lem s end after (Ok (End p)) e q = cc
-land_on_lem s end after (Ok (Record kind index from len next)) e q =
-    let y = step_fits s end index from len next e in
-    let z : next ≡ after = grind (arith, common_steps) in
+land_on_lem s end after (Ok (N.End p)) e q = cc
+land_on_lem s end after (Ok (N.Record it)) e q =
+    let y = step_fits s end it e in
+    let z : it.next ≡ after = grind (arith, common_steps) in
     omega arith
 
 pub lands : (s : List ℕ) (end : ℕ) {after : ℕ} → Ok after ≡ land_of s end → Lands s end after

@@ -5,9 +5,10 @@ use Rattle.std.proofs.lemmas.List.{length-reverse}
 use Rattle.common.specs.declared.Refusal.{Refusal}
 use Rattle.common.specs.declared.Refusal.TheVariants.{NothingThere}
 use Rattle.iter.specs.Step.{scan_of, step_of}
-use Rattle.iter.specs.Reading.{Rec, rec_at}
+use Rattle.iter.specs.Reading.{bytes_at, Rec, rec_at}
 use Rattle.iter.specs.declared.Next.{Next}
-use Rattle.iter.specs.declared.Next.TheVariants.{End, Record}
+use Rattle.iter.specs.declared.Record.{Record}
+use Rattle.iter.specs.declared.Next.TheVariants as N
 use Rattle.iter.proofs.Reading.{step_fits}
 use Rattle.chain.specs.Finding.{Walk, seen}
 use Rattle.chain.proofs.Goings.{Going, ends, onward, AtRecord, turned, pushed, found}
@@ -16,7 +17,7 @@ use Rattle.jump.specs.declared.hop.Hop.TheVariants as H
 use Rattle.jump.specs.Hop.{hop_of, land_of}
 use Rattle.jump.specs.Jump.{yielded_at, on_land, on_hop, on_step, jump_body, jump_by, jump_from, jump_of}
 use Rattle.jump.proofs.Hops.{over_after, lands}
-use Rattle.jump.proofs.Fuel.{unroll}
+use Rattle.iter.proofs.Later.{unroll}
 
 -- the body calls later positions only
 module _ (s : List ℕ) (i : ℕ) (f g : ℕ → List ℕ → Walk) where
@@ -37,10 +38,10 @@ module _ (s : List ℕ) (i : ℕ) (f g : ℕ → List ℕ → Walk) where
   later_step : (at : ℕ) (n : Result Next Refusal) → (scan_of s at).step ≡ n → ((q : ℕ) → at < q → q ≤ length s → f q ≡ g q) →
       on_step s i (scan_of s at) n f ≡ on_step s i (scan_of s at) n g
   later_step at (Err x) e h = refl
-  later_step at (Ok (End p)) e h = refl
-  later_step at (Ok (Record kind index from len next)) e h =
-      let y = step_fits s at index from len next e in
-      λ j st. later_hop (rec_at s (scan_of s at) index from len) at index next (take len (drop from s)) st (hop_of i index next (take len (drop from s)) (length st)) refl
+  later_step at (Ok (N.End p)) e h = refl
+  later_step at (Ok (N.Record it)) e h =
+      let y = step_fits s at it e in
+      λ j st. later_hop (rec_at s (scan_of s at) it) at it.index it.next (bytes_at s it) st (hop_of i it.index it.next (bytes_at s it) (length st)) refl
       (omega (arith, y)) (omega (arith, y)) h j
 
 later_body : (s : List ℕ) (i at : ℕ) (f g : ℕ → List ℕ → Walk) → ((q : ℕ) → at < q → q ≤ length s → f q ≡ g q) → jump_body s i f at ≡ jump_body s i g at
@@ -61,39 +62,39 @@ abbrev pub Jumping : List ℕ → ℕ → ℕ → List ℕ → ℕ → ℕ → T
 Jumping s start i chain at read = Going (jump_from s i) s start chain at read
 
 module _ (i : ℕ) {s : List ℕ} {start : ℕ} {chain : List ℕ} {at read : ℕ} (g : Jumping s start i chain at read) where
-  pub at_end : {n : Next} {p : ℕ} → Ok n ≡ step_of s at → n ≡ End p → Err NothingThere ≡ jump_of s start i
+  pub at_end : {n : Next} {p : ℕ} → Ok n ≡ step_of s at → n ≡ N.End p → Err NothingThere ≡ jump_of s start i
   unfolding step_of jump_of
-  at_end {p = p} e f = ends g (jump_by_lem s i at (reverse chain) (Ok (End p)) (sym e ∙ ap Ok f))
+  at_end {p = p} e f = ends g (jump_by_lem s i at (reverse chain) (Ok (N.End p)) (sym e ∙ ap Ok f))
 
   pub at_refused : {x : Refusal} → Err x ≡ step_of s at → Err x ≡ jump_of s start i
   unfolding step_of jump_of
   at_refused {x} e = ends g (jump_by_lem s i at (reverse chain) (Err x) (sym e))
 
-module _ (i : ℕ) {s : List ℕ} {start : ℕ} {chain : List ℕ} {at read kind index from len next : ℕ}
-    (y : AtRecord (jump_from s i) s start chain at read kind index from len next) {d : ℕ} (ed : d ≡ length chain) where
+module _ (i : ℕ) {s : List ℕ} {start : ℕ} {chain : List ℕ} {at read : ℕ} {it : Record}
+    (y : AtRecord (jump_from s i) s start chain at read it) {d : ℕ} (ed : d ≡ length chain) where
   abbrev r : Rec
-  r = rec_at s (scan_of s at) index from len
+  r = rec_at s (scan_of s at) it
 
   -- the record as the loop lends it
   abbrev lent : List ℕ
-  lent = take (next - from) (drop from s)
+  lent = take (it.next - it.start) (drop it.start s)
 
   -- the search that is left, at each hop
-  left : {h : Result Hop Refusal} → h ≡ hop_of i index next lent d → jump_from s i at (reverse chain) ≡ on_hop s r next (reverse chain) h (jump_from s i)
+  left : {h : Result Hop Refusal} → h ≡ hop_of i it.index it.next lent d → jump_from s i at (reverse chain) ≡ on_hop s r it.next (reverse chain) h (jump_from s i)
   left e =
-      let long : next - from ≡ len = omega (arith, y.fits) in
-      jump_by_lem s i at (reverse chain) (Ok (Record kind index from len next)) y.yields
+      let long : it.next - it.start ≡ it.len = omega (arith, y.fits) in
+      jump_by_lem s i at (reverse chain) (Ok (N.Record it)) y.yields
       ∙ rw (← long, length-reverse chain, sym ed, sym e)
 
-  pub at_refusing : {x : Refusal} → Err x ≡ hop_of i index next lent d → Err x ≡ jump_of s start i
+  pub at_refusing : {x : Refusal} → Err x ≡ hop_of i it.index it.next lent d → Err x ≡ jump_of s start i
   unfolding jump_of
   at_refusing e = ends y.going (left e)
 
-  module _ {h : Hop} (e : Ok h ≡ hop_of i index next lent d) where
-    pub going_stay : h ≡ H.Stay → Jumping s start i chain next (read + 1)
+  module _ {h : Hop} (e : Ok h ≡ hop_of i it.index it.next lent d) where
+    pub going_stay : h ≡ H.Stay → Jumping s start i chain it.next (read + 1)
     going_stay f = turned y chain (left (ap Ok (sym f) ∙ e))
 
-    pub going_push : h ≡ H.Push → {ch : List ℕ} → ch ≡ chain ++ index ∷ [] → Jumping s start i ch next (read + 1)
+    pub going_push : h ≡ H.Push → {ch : List ℕ} → ch ≡ chain ++ it.index ∷ [] → Jumping s start i ch it.next (read + 1)
     going_push f c = pushed y c (left (ap Ok (sym f) ∙ e))
 
     pub at_found : h ≡ H.Found → Ok (record { chain = chain; count = read + 1 }) ≡ jump_of s start i
@@ -109,13 +110,13 @@ module _ (i : ℕ) {s : List ℕ} {start : ℕ} {chain : List ℕ} {at read kind
       at_miss el = ends y.going (landed el)
 
       -- a jump goes on behind its opener and its closer, within the stream
-      pub over : {after : ℕ} → Ok after ≡ land_of s end → (next + 4 ≤ after) × (after ≤ length s)
+      pub over : {after : ℕ} → Ok after ≡ land_of s end → (it.next + 4 ≤ after) × (after ≤ length s)
       over el =
-          let a : next ≤ end = over_after i index next lent d (ap Ok (sym f) ∙ e) in
+          let a : it.next ≤ end = over_after i it.index it.next lent d (ap Ok (sym f) ∙ e) in
           let l = lands s end el in
           (omega arith, omega arith)
 
       pub going_over : {after : ℕ} → Ok after ≡ land_of s end → Jumping s start i chain after (read + 1 + 1)
       going_over {after} el =
-          let l : next + 4 ≤ after = (over el).0 in
+          let l : it.next + 4 ≤ after = (over el).0 in
           rw (add_assoc read 1 1) (onward y.going after 2 chain (omega (arith, y.fits)) (over el).1 (landed el) refl (omega arith))

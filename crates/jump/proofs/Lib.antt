@@ -1,3 +1,2 @@
-pub mod Fuel
 pub mod Jumps
 pub mod Hops

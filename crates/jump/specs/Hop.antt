@@ -6,7 +6,7 @@ use Rattle.constants.specs.declared.Role.{Role}
 use Rattle.constants.specs.declared.Role.TheVariants.{Neither, Opens, Closes}
 use Rattle.iter.specs.Step.{scan_of}
 use Rattle.iter.specs.declared.Next.{Next}
-use Rattle.iter.specs.declared.Next.TheVariants.{End, Record}
+use Rattle.iter.specs.declared.Next.TheVariants as N
 use Rattle.constants.specs.Kind.{nesting_role}
 use Rattle.constants.specs.Raw.{nesting_role_of}
 use Rattle.links.specs.Links.{links_of}
@@ -45,8 +45,8 @@ land_role Neither next = Err UnusableLink
 
 abbrev pub land_on : ℕ → Result Next Refusal → Result ℕ Refusal
 land_on end (Err e) = Err e
-land_on end (Ok (End p)) = Err UnusableLink
-land_on end (Ok (Record kind index start len next)) = cond (eqb index end) (land_role (nesting_role kind) next) (Err UnusableLink)
+land_on end (Ok (N.End p)) = Err UnusableLink
+land_on end (Ok (N.Record r)) = cond (eqb r.index end) (land_role (nesting_role r.kind) r.next) (Err UnusableLink)
 
 unfoldable pub land_of : List ℕ → ℕ → Result ℕ Refusal
 land_of s end = land_on end (scan_of s end).step

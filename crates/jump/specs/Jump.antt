@@ -1,23 +1,27 @@
 -- The jump finder (document 01, "Jump finder"): as walking, except for closers and for openers whose scope ends before i.
-use Rattle.std.specs.Prelude.{ℕ, zero, suc, List, [], ◌∷◌, length, take, drop, Result, Ok, Err}
+use Rattle.std.specs.Prelude.{ℕ, zero, suc, List, [], ◌∷◌, length, Result, Ok, Err}
 use Rattle.common.specs.declared.Refusal.{Refusal}
 use Rattle.common.specs.declared.Refusal.TheVariants.{NothingThere}
 use Rattle.iter.specs.Step.{scan_of}
-use Rattle.iter.specs.Reading.{Rec, rec_at}
+use Rattle.iter.specs.Reading.{Rec, bytes_at, rec_at}
 use Rattle.iter.specs.declared.Scan.{Scan}
+use Rattle.iter.specs.declared.Record.{Record}
 use Rattle.iter.specs.declared.Next.{Next}
-use Rattle.iter.specs.declared.Next.TheVariants.{End, Record}
+use Rattle.iter.specs.declared.Next.TheVariants as N
 use Rattle.chain.specs.Finding.{Walk, seen, found_at, refused_with, finding_of}
 use Rattle.chain.specs.declared.Found.{Found}
 use Rattle.jump.specs.declared.hop.Hop.{Hop}
 use Rattle.jump.specs.declared.hop.Hop.TheVariants as H
 use Rattle.jump.specs.Hop.{hop_of, land_of}
 
+abbrev no_record : Record
+no_record = record { kind = 0; index = 0; start = 0; len = 0; next = 0 }
+
 -- the record that a step from a position yields (asked only where it yields one)
 abbrev pub yielded : List ℕ → Scan → Result Next Refusal → Rec
-yielded s c (Err e) = rec_at s c 0 0 0
-yielded s c (Ok (End p)) = rec_at s c 0 0 0
-yielded s c (Ok (Record kind index start len next)) = rec_at s c index start len
+yielded s c (Err e) = rec_at s c no_record
+yielded s c (Ok (N.End p)) = rec_at s c no_record
+yielded s c (Ok (N.Record r)) = rec_at s c r
 
 unfoldable pub yielded_at : List ℕ → ℕ → Rec
 yielded_at s at = yielded s (scan_of s at) (scan_of s at).step
@@ -38,9 +42,8 @@ on_hop s r next st (Err e) on = seen r (refused_with e)
 -- Step's refusals; End is 14.
 abbrev pub on_step : List ℕ → ℕ → Scan → Result Next Refusal → (ℕ → List ℕ → Walk) → List ℕ → Walk
 on_step s i c (Err e) on st = refused_with e
-on_step s i c (Ok (End p)) on st = refused_with NothingThere
-on_step s i c (Ok (Record kind index start len next)) on st =
-    on_hop s (rec_at s c index start len) next st (hop_of i index next (take len (drop start s)) (length st)) on
+on_step s i c (Ok (N.End p)) on st = refused_with NothingThere
+on_step s i c (Ok (N.Record r)) on st = on_hop s (rec_at s c r) r.next st (hop_of i r.index r.next (bytes_at s r) (length st)) on
 
 unfoldable pub jump_body : List ℕ → ℕ → (ℕ → List ℕ → Walk) → ℕ → List ℕ → Walk
 jump_body s i on at st = on_step s i (scan_of s at) (scan_of s at).step on st

@@ -1,14 +1,13 @@
 // What the jump finder does at one record, and where a jump over a scope lands: the loop of crate jump does as it says.
 ghost use Rattle.std.specs.Prelude.{◌≡◌};
-ghost use Rattle.constants.specs.declared.Role.TheVariants.{Opens};
-ghost use Rattle.constants.specs.Raw.{raw_kind, nesting_role_of};
-ghost use Rattle.links.specs.Links.{links_of};
+ghost use Rattle.constants.specs.Raw.{raw_kind};
 ghost use Rattle.jump.specs.Hop.{open_hop, hop_of, land_of};
 
 use chain::MAX_DEPTH;
 use common::Refusal;
 use constants::Role;
-use iter::Next;
+use iter::{Next, Record};
+use links::Links;
 
 /// What the jump finder does at a record that it reads.
 #[derive(Clone, Copy, Debug, PartialEq, Eq)]
@@ -26,12 +25,11 @@ pub enum Hop {
     Found,
 }
 
-/// The hop at an opener.
-fn hop_open(rec: &[u8], next: usize, i: usize, depth: usize) -> Result<Hop, Refusal>
-    requires { nesting_role_of rec.now ≡ Opens }
-    ensures { result ≡ open_hop (links_of rec.now) next i depth }
+/// The hop at an opener with these links. (The depth is all that it needs of the chain.)
+fn hop_open(links: Option<Links>, next: usize, i: usize, depth: usize) -> Result<Hop, Refusal>
+    ensures { result ≡ open_hop links next i depth }
 {
-    let links = links::links_of(rec).ok_or(Refusal::UnusableLink)?;
+    let links = links.ok_or(Refusal::UnusableLink)?;
     let end = links.end as usize;
     if end < next {
         return Err(Refusal::UnusableLink);
@@ -45,27 +43,21 @@ fn hop_open(rec: &[u8], next: usize, i: usize, depth: usize) -> Result<Hop, Refu
     Ok(Hop::Push)
 }
 
-/// The hop at a record of this kind, index and next position, on the way to i, with so many openers open.
+/// The hop at a record, whose bytes are lent with it, on the way to i, with so many openers open. (As above, the depth is all that it
+/// needs of the chain.)
 #[tactic(auto, using(iter::proofs::Records::role_of_lem), unfolding(crate::specs::Hop::hop_of))]
-pub fn hop_at(
-    kind: u16,
-    rec: &[u8],
-    index: usize,
-    next: usize,
-    i: usize,
-    depth: usize,
-) -> Result<Hop, Refusal>
-    requires { kind ≡ raw_kind rec.now }
-    ensures { result ≡ hop_of i index next rec.now depth }
+pub fn hop_at(r: Record, rec: &[u8], i: usize, depth: usize) -> Result<Hop, Refusal>
+    requires { r.kind ≡ raw_kind rec.now }
+    ensures { result ≡ hop_of i r.index r.next rec.now depth }
 {
-    if index == i {
+    if r.index == i {
         return Ok(Hop::Found);
     }
-    if i < index {
+    if i < r.index {
         return Err(Refusal::NothingThere);
     }
-    match constants::nesting_role(kind) {
-        Role::Opens => hop_open(rec, next, i, depth),
+    match constants::nesting_role(r.kind) {
+        Role::Opens => hop_open(links::links_of(rec), r.next, i, depth),
         Role::Closes => Err(Refusal::UnusableLink),
         Role::Neither => Ok(Hop::Stay),
     }
@@ -78,17 +70,12 @@ pub fn land_at(s: &[u8], end: usize) -> Result<usize, Refusal>
 {
     match iter::step(s, end)? {
         Next::End(_) => Err(Refusal::UnusableLink),
-        Next::Record {
-            kind,
-            index,
-            next,
-            ..
-        } => {
-            if index != end {
+        Next::Record(r) => {
+            if r.index != end {
                 return Err(Refusal::UnusableLink);
             }
-            match constants::nesting_role(kind) {
-                Role::Closes => Ok(next),
+            match constants::nesting_role(r.kind) {
+                Role::Closes => Ok(r.next),
                 Role::Opens | Role::Neither => Err(Refusal::UnusableLink),
             }
         }

@@ -21,21 +21,16 @@ pub fn jump(s: &[u8], start: usize, i: usize) -> Result<Found, Refusal>
     let mut chain = Chain::new();
     let mut at = start;
     let mut read: usize = 0;
+    // By position: a jump goes on elsewhere, which an Iterator would not.
     loop {
         match iter::step(s, at)? {
             Next::End(_) => return Err(Refusal::NothingThere),
-            Next::Record {
-                kind,
-                index,
-                start: from,
-                next,
-                ..
-            } => {
-                at = next;
+            Next::Record(r) => {
+                at = r.next;
                 read += 1;
-                match hop::hop_at(kind, &s[from..next], index, next, i, chain.len())? {
+                match hop::hop_at(r, &s[r.start..r.next], i, chain.len())? {
                     Hop::Stay => {}
-                    Hop::Push => chain.push(index as u32),
+                    Hop::Push => chain.push(r.index as u32),
                     Hop::Over(end) => {
                         at = hop::land_at(s, end)?;
                         read += 1;

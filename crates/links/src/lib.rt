@@ -18,13 +18,13 @@ pub struct Links {
     pub end: u32,
 }
 
-/// The links of an opener; none where decode refuses it. Both fields stand behind the kind in every layout that opens a scope, and name
-/// has decode's refusals: no typed record is built.
+/// The links of an opener; none where decode refuses it. Both fields stand behind the kind in every layout that opens a scope.
+#[tactic(auto, using(crate::proofs::Openers::links_there), unfolding(crate::specs::Links::links_of))]
 pub fn links_of(rec: &[u8]) -> Option<Links>
     requires { nesting_role_of rec.now ≡ Opens }
     ensures { result ≡ links_of rec.now }
 {
-    symbol::name::name(rec).ok()?;
+    symbol::decode(rec).ok()?;
     Some(Links {
         parent: u32::at(rec, 2),
         end: u32::at(rec, 6),

@@ -7,7 +7,8 @@ use Rattle.common.specs.declared.Refusal.TheVariants.{TooLong}
 use Rattle.iter.specs.Step.{step_of}
 use Rattle.iter.specs.Reading.{ends, refuses, read_of}
 use Rattle.iter.specs.declared.Next.{Next}
-use Rattle.iter.specs.declared.Next.TheVariants.{End, Record}
+use Rattle.iter.specs.declared.Record.{Record}
+use Rattle.iter.specs.declared.Next.TheVariants as N
 use Rattle.iter.proofs.Reading.{step_fits, read_by}
 use Rattle.iter.proofs.Steps.{record_of, next_within, lent_bytes}
 use Rattle.listing.specs.Listing.{line_of, refused_line, lines_of, text_of, listing_of}
@@ -43,29 +44,29 @@ module _ {s : List ℕ} {before now : Text} {at : ℕ} (l : Listing s before now
   last : lines_of (read_of s at).recs ≡ [] → Writes (lines_of (read_of s 4).recs) before now
   last none = rw (← l.goes_on, none, append-nil) l.written
 
-  pub at_end : {n : Next} {q : ℕ} → Ok n ≡ step_of s at → n ≡ End q → Writes (lines_of (read_of s 4).recs) before now × ((read_of s 4).last.ending ≡ ends)
+  pub at_end : {n : Next} {q : ℕ} → Ok n ≡ step_of s at → n ≡ N.End q → Writes (lines_of (read_of s 4).recs) before now × ((read_of s 4).last.ending ≡ ends)
   unfolding step_of lines_of
-  at_end {q = q} e f = let r = read_by s at (Ok (End q)) (sym e ∙ ap Ok f) in (last (rw r), rw (← l.ending, r))
+  at_end {q = q} e f = let r = read_by s at (Ok (N.End q)) (sym e ∙ ap Ok f) in (last (rw r), rw (← l.ending, r))
 
   pub at_refusal : {x : Refusal} → Err x ≡ step_of s at → Writes (lines_of (read_of s 4).recs) before now × ((read_of s 4).last.ending ≡ refuses x)
   unfolding step_of lines_of
   at_refusal {x} e = let r = read_by s at (Err x) (sym e) in (last (rw r), rw (← l.ending, r))
 
-  module _ {n : Next} {kind index start len next : ℕ} (e : Ok n ≡ step_of s at) (f : n ≡ Record kind index start len next) where
+  module _ {n : Next} {it : Record} (e : Ok n ≡ step_of s at) (f : n ≡ N.Record it) where
     -- the line of a record has room behind the lines before it
-    pub line_room : now.len + length (line_of index (take (next - start) (drop start s))) + 52 ≤ 13 * next
+    pub line_room : now.len + length (line_of it.index (take (it.next - it.start) (drop it.start s))) + 52 ≤ 13 * it.next
     line_room =
-        let most : length (take (next - start) (drop start s)) ≤ next - start = simp length-take (omega arith) in
-        let y = step_fits s at index start len next (record_of s at e f) in
-        omega (arith, line_most index (take (next - start) (drop start s)) (omega arith), l.room)
+        let most : length (take (it.next - it.start) (drop it.start s)) ≤ it.next - it.start = simp length-take (omega arith) in
+        let y = step_fits s at it (record_of s at e f) in
+        omega (arith, line_most it.index (take (it.next - it.start) (drop it.start s)) (omega arith), l.room)
 
     pub after_line :
-        {now' : Text} → length s ≤ 65536 → Writes (line_of index (take (next - start) (drop start s))) now now' → Listing s before now' next
+        {now' : Text} → length s ≤ 65536 → Writes (line_of it.index (take (it.next - it.start) (drop it.start s))) now now' → Listing s before now' it.next
     unfolding lines_of
     after_line small w =
-        let r = read_by s at (Ok (Record kind index start len next)) (record_of s at e f) in
+        let r = read_by s at (Ok (N.Record it)) (record_of s at e f) in
         record {
-          done = l.done ++ line_of index (take (next - start) (drop start s));
+          done = l.done ++ line_of it.index (take (it.next - it.start) (drop it.start s));
           empty = l.empty;
           written = then_lem l.written w;
           goes_on = rw (append_assoc, lent_bytes s at e f) (rw r at l.goes_on);

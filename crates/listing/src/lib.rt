@@ -82,17 +82,13 @@ fn put_lines(text: &mut Text, s: &[u8]) -> Result<(), Refusal>
     ensures room { text.new.len + 50 ≤ TEXT_ROOM }
 {
     let mut at = 4;
+    // By position: `step` says of a record what an Iterator would, and the five loops from step to step have one form.
     loop {
         match iter::step(s, at)? {
             Next::End(_) => return Ok(()),
-            Next::Record {
-                index,
-                start,
-                next,
-                ..
-            } => {
-                put_line(text, index, &s[start..next]);
-                at = next;
+            Next::Record(r) => {
+                put_line(text, r.index, &s[r.start..r.next]);
+                at = r.next;
             }
         }
     }

@@ -8,7 +8,7 @@ ghost use Rattle.listing.specs.Puts.{HasRoom, Writes};
 
 use super::TEXT_ROOM;
 
-/// Lent bytes, and how many of them are written.
+/// Lent bytes, and how many of them are written. (No `Cursor` of std's: its writes can fail, and none does here.)
 #[derive(Drop)]
 pub struct Text<'a> {
     /// The bytes.

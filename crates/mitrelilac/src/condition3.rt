@@ -1,5 +1,6 @@
 // Condition 3 of what C receives: wherever mitrelilac_check returns 0, the words of mitrelilac_walk, mitrelilac_jump and mitrelilac_climb
 // agree. The claim is stated in specs/Exported.antt; nothing calls this function.
+// (Crate mitrelilac_c has it again, of the functions that it exports.)
 ghost use Rattle.check_nesting.specs.Check.{check_of};
 ghost use Rattle.walk.specs.Walk.{walk_of};
 ghost use Rattle.jump.specs.Jump.{jump_of};

@@ -42,8 +42,7 @@ pub fn mitrelilac_kind(rec: &[u8], out: &mut [u64; 3]) -> u32
 pub fn mitrelilac_decode(rec: &[u8], out: &mut [u64; 24]) -> u32
     ensures { Replied (decode_reply (decode rec.now)) result out.old out.new }
 {
-    let decoded = symbol::decode(rec);
-    match &decoded {
+    match &symbol::decode(rec) {
         Ok((d, consumed)) => {
             record_words::write_record(d, *consumed, out);
             0

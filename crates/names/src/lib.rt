@@ -11,7 +11,7 @@ ghost use Rattle.names.specs.Lent.{IsPart};
 use common::Refusal;
 use common::buffer::ParseBuffer;
 
-/// Some of the lent bytes.
+/// Some of the lent bytes. (Where they stand, and not the bytes themselves: C is told where.)
 #[derive(Clone, Copy, Debug, PartialEq, Eq)]
 pub struct Part {
     /// The position of the first.
@@ -51,7 +51,7 @@ fn take(buf: &mut ParseBuffer, n: usize) -> Result<Part, Refusal>
     ensures { Reads (bytes n) buf.old result buf.new }
 {
     let start = buf.pos;
-    if !common::has_room(buf.bytes, start, n) {
+    if !buf.has_room(n) {
         return Err(Refusal::UnexpectedEof(0));
     }
     buf.pos += n;
@@ -77,7 +77,7 @@ pub fn take_rest(buf: &mut ParseBuffer) -> Part
     Part { start, len }
 }
 
-/// Reads the name of a record of this kind.
+/// Reads the name of a record of this kind. (Here and in decoders the kind stands beside the buffer, as in pdb: a buffer is of any bytes.)
 #[inline(always)]
 pub fn parse_symbol_name(buf: &mut ParseBuffer, kind: u16) -> Result<Part, Refusal>
     ensures { Reads (symbol_name kind) buf.old result buf.new }
@@ -93,7 +93,11 @@ pub fn parse_symbol_name(buf: &mut ParseBuffer, kind: u16) -> Result<Part, Refus
 pub fn as_bytes(s: &[u8], p: Part) -> &[u8]
     ensures { IsPart s.entry p result }
 {
-    if common::has_room(s, p.start, p.len) {
+    let buf = ParseBuffer {
+        bytes: s,
+        pos: p.start,
+    };
+    if buf.has_room(p.len) {
         &s[p.start..p.start + p.len]
     } else {
         &s[..0]

@@ -1,4 +1,4 @@
-// The fields of decoded records that are no plain numbers, as words.
+// The fields of decoded records that are no plain numbers, as words. (No `From`: neither these types nor u64 are of this crate.)
 ghost use Rattle.std.specs.Prelude.{◌≡◌};
 ghost use Rattle.record_words.specs.Fields.{variant_number, variant_value, thunk_number, thunk_value, thunk_target};
 ghost use Rattle.record_words.specs.Flags.{public_bits, procedure_bits, compile_bits, export_bits, local_bits, separated_bits};

@@ -1,27 +1,40 @@
 // Fields that several records share, or that stand for something else than their number.
+ghost use Rattle.std.specs.Prelude.{◌≡◌};
 ghost use Rattle.common.specs.Buffer.{Reads};
-ghost use Rattle.records.specs.Field.{index, module_index, place};
+ghost use Rattle.records.specs.Field.{index_of, index, module_of, module_index, place};
 
 use super::SectionOffset;
 use common::Refusal;
 use common::buffer::ParseBuffer;
 
-/// Reads a parent or a next: 0 means none.
+/// A parent or a next: 0 means none.
+pub fn index_of(x: u32) -> Option<u32>
+    ensures { result ≡ index_of x }
+{
+    if x == 0 { None } else { Some(x) }
+}
+
+/// A module: 0 means none, else it is one less.
+pub fn module_of(x: u16) -> Option<u16>
+    ensures { result ≡ module_of x }
+{
+    x.checked_sub(1)
+}
+
+/// Reads a parent or a next.
 #[inline(always)]
 pub fn parse_optional_index(buf: &mut ParseBuffer) -> Result<Option<u32>, Refusal>
     ensures { Reads index buf.old result buf.new }
 {
-    let x = buf.parse()?;
-    Ok(if x == 0 { None } else { Some(x) })
+    Ok(index_of(buf.parse()?))
 }
 
-/// Reads a module: 0 means none, else it is one less.
+/// Reads a module.
 #[inline(always)]
 pub fn parse_module(buf: &mut ParseBuffer) -> Result<Option<u16>, Refusal>
     ensures { Reads module_index buf.old result buf.new }
 {
-    let x: u16 = buf.parse()?;
-    Ok(x.checked_sub(1))
+    Ok(module_of(buf.parse()?))
 }
 
 /// Reads a place in the program.

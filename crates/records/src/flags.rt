@@ -292,7 +292,7 @@ impl CompileFlags {
 
     pub const EXP_MODULE: u16 = 0x800;
 
-    /// The last three are flags of S_COMPILE3 alone.
+    /// The last three are flags of S_COMPILE3 alone. (The kind decides beside the bits, so that this is no `From`.)
     #[inline(always)]
     pub fn from_bits(x: u16, compile3: bool) -> Self
         ensures { result ≡ compile_flags x compile3 }

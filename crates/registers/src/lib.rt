@@ -24,13 +24,13 @@ pub fn parse_register_count(buf: &mut ParseBuffer, kind: u16) -> Result<u16, Ref
     Ok(u16::from(buf.parse::<u8>()?))
 }
 
-pub fn parse_multi_register_variable(mut buf: ParseBuffer, kind: u16) -> Decoded
-    ensures { result ≡ multi_register_variable kind buf.entry.bytes.now buf.entry.pos }
+pub fn parse_multi_register_variable(buf: &mut ParseBuffer, kind: u16) -> Decoded
+    ensures { result ≡ multi_register_variable kind buf.old.bytes.now buf.old.pos }
 {
     let type_index = buf.parse()?;
-    let count = parse_register_count(&mut buf, kind)?;
+    let count = parse_register_count(buf, kind)?;
     let first = buf.pos;
-    entry::skip_entries(&mut buf, kind, count)?;
+    entry::skip_entries(buf, kind, count)?;
     let data = MultiRegisterVariableSymbol {
         type_index,
         count,

@@ -19,7 +19,7 @@ use Rattle.reply.specs.Reply.{Reply, answers, reply_by}
 -- given as where they start and how many they are.
 abbrev pub step_words : Next → List ℕ
 step_words (N.End position) = 0 ∷ position ∷ []
-step_words (N.Record kind index start len next) = 1 ∷ index ∷ start ∷ len ∷ next ∷ []
+step_words (N.Record r) = 1 ∷ r.index ∷ r.start ∷ r.len ∷ r.next ∷ []
 
 abbrev pub step_reply : Result Next Refusal → Reply
 step_reply = reply_by step_words

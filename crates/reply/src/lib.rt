@@ -33,23 +33,22 @@ pub fn answer<const N: usize>(out: &mut [u64], words: [u64; N]) -> u32
     0
 }
 
-/// End: 0, position. A record: 1, index, its bytes, next position.
+/// End: 0, position. A record: 1, index, its bytes, next position. (Each answer has its own words, and number of words: what replies share is
+/// `answer` and `refuse`.)
 pub fn reply_step(step: Result<Next, Refusal>, out: &mut [u64; 5]) -> u32
     ensures { Replied (step_reply step) result out.old out.new }
 {
     match step {
         Ok(Next::End(at)) => answer(out, [0, at as u64]),
-        Ok(
-            Next::Record {
-                index,
-                start,
-                len,
-                next,
-                ..
-            },
-        ) => answer(
+        Ok(Next::Record(r)) => answer(
             out,
-            [1, index as u64, start as u64, len as u64, next as u64],
+            [
+                1,
+                r.index as u64,
+                r.start as u64,
+                r.len as u64,
+                r.next as u64,
+            ],
         ),
         Err(e) => refuse(out, e),
     }

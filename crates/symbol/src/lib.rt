@@ -5,7 +5,7 @@ pub mod name;
 pub mod register_entry;
 
 ghost use Rattle.std.specs.Prelude.{◌≡◌};
-ghost use Rattle.symbol.specs.Decode.{by_kind, decode};
+ghost use Rattle.symbol.specs.Decode.{decode};
 
 use code::{block, inline_site, procedure, thunk};
 use common::Refusal;
@@ -18,46 +18,9 @@ use records::{Decoded, SymbolData};
 /// The longest record that is decoded.
 pub const MAX_RECORD: usize = 0xffff;
 
-/// Reads what stands behind the kind, by the layout of its class. The arms return, and the function is not inlined: where arms meet, a
-/// record is copied in pieces.
+/// The typed record, and the bytes that it took. It is not inlined: where a caller's arms meet those of the match, the record is copied
+/// once more.
 #[inline(never)]
-fn parse_by_kind(buf: ParseBuffer, kind: u16) -> Decoded
-    ensures { result ≡ by_kind kind buf.entry.bytes.now buf.entry.pos }
-{
-    match constants::class_of(kind) {
-        Class::Unknown => return Err(Refusal::UnimplementedKind(kind)),
-        Class::ScopeEnd => return Ok((SymbolData::ScopeEnd, buf.pos)),
-        Class::ObjName => return object::parse_obj_name(buf, kind),
-        Class::RegisterVariable => return variable::parse_register_variable(buf, kind),
-        Class::Constant => return variable::parse_constant(buf, kind),
-        Class::UserDefinedType => return variable::parse_user_defined_type(buf, kind),
-        Class::MultiRegisterVariable => return registers::parse_multi_register_variable(buf, kind),
-        Class::Data => return storage::parse_data(buf, kind),
-        Class::Public => return linkage::parse_public(buf, kind),
-        Class::Procedure => return procedure::parse_procedure(buf, kind),
-        Class::ThreadStorage => return storage::parse_thread_storage(buf, kind),
-        Class::CompileFlags => return compile::parse_compile_flags(buf, kind),
-        Class::UsingNamespace => return object::parse_using_namespace(buf, kind),
-        Class::ProcedureReference => return reference::parse_procedure_reference(buf, kind),
-        Class::DataReference => return reference::parse_data_reference(buf, kind),
-        Class::AnnotationReference => return reference::parse_annotation_reference(buf, kind),
-        Class::Trampoline => return linkage::parse_trampoline(buf),
-        Class::Export => return linkage::parse_export(buf, kind),
-        Class::Local => return local::parse_local(buf, kind),
-        Class::BuildInfo => return object::parse_build_info(buf),
-        Class::InlineSite => return inline_site::parse_inline_site(buf, kind),
-        Class::InlineSiteEnd => return Ok((SymbolData::InlineSiteEnd, buf.pos)),
-        Class::ProcedureEnd => return Ok((SymbolData::ProcedureEnd, buf.pos)),
-        Class::Label => return procedure::parse_label(buf, kind),
-        Class::Block => return block::parse_block(buf, kind),
-        Class::RegisterRelative => return local::parse_register_relative(buf, kind),
-        Class::Thunk => return thunk::parse_thunk(buf, kind),
-        Class::SeparatedCode => return block::parse_separated_code(buf),
-    }
-}
-
-/// The typed record, and the bytes that it took.
-#[inline(always)]
 pub fn decode(s: &[u8]) -> Decoded
     ensures { result ≡ decode s.now }
 {
@@ -66,5 +29,34 @@ pub fn decode(s: &[u8]) -> Decoded
     }
     let mut buf = ParseBuffer::new(s);
     let kind = buf.parse()?;
-    parse_by_kind(buf, kind)
+    match constants::class_of(kind) {
+        Class::Unknown => Err(Refusal::UnimplementedKind(kind)),
+        Class::ScopeEnd => Ok((SymbolData::ScopeEnd, buf.pos)),
+        Class::ObjName => object::parse_obj_name(&mut buf, kind),
+        Class::RegisterVariable => variable::parse_register_variable(&mut buf, kind),
+        Class::Constant => variable::parse_constant(&mut buf, kind),
+        Class::UserDefinedType => variable::parse_user_defined_type(&mut buf, kind),
+        Class::MultiRegisterVariable => registers::parse_multi_register_variable(&mut buf, kind),
+        Class::Data => storage::parse_data(&mut buf, kind),
+        Class::Public => linkage::parse_public(&mut buf, kind),
+        Class::Procedure => procedure::parse_procedure(&mut buf, kind),
+        Class::ThreadStorage => storage::parse_thread_storage(&mut buf, kind),
+        Class::CompileFlags => compile::parse_compile_flags(&mut buf, kind),
+        Class::UsingNamespace => object::parse_using_namespace(&mut buf, kind),
+        Class::ProcedureReference => reference::parse_procedure_reference(&mut buf, kind),
+        Class::DataReference => reference::parse_data_reference(&mut buf, kind),
+        Class::AnnotationReference => reference::parse_annotation_reference(&mut buf, kind),
+        Class::Trampoline => linkage::parse_trampoline(&mut buf),
+        Class::Export => linkage::parse_export(&mut buf, kind),
+        Class::Local => local::parse_local(&mut buf, kind),
+        Class::BuildInfo => object::parse_build_info(&mut buf),
+        Class::InlineSite => inline_site::parse_inline_site(&mut buf, kind),
+        Class::InlineSiteEnd => Ok((SymbolData::InlineSiteEnd, buf.pos)),
+        Class::ProcedureEnd => Ok((SymbolData::ProcedureEnd, buf.pos)),
+        Class::Label => procedure::parse_label(&mut buf, kind),
+        Class::Block => block::parse_block(&mut buf, kind),
+        Class::RegisterRelative => local::parse_register_relative(&mut buf, kind),
+        Class::Thunk => thunk::parse_thunk(&mut buf, kind),
+        Class::SeparatedCode => block::parse_separated_code(&mut buf),
+    }
 }

@@ -1,6 +1,6 @@
 -- Laws of the walk: what a turn of the loop does to the walk that is left.
 -- Assumes nothing.
-use Rattle.std.proofs.Common.{ℕ, ◌+◌, ◌≤◌, ◌<◌, ◌≡◌, sym, ap, ◌∙◌, arith, List, [], ◌∷◌, ◌++◌, length, take, drop, reverse, Result, Ok, Err}
+use Rattle.std.proofs.Common.{ℕ, ◌+◌, ◌≤◌, ◌<◌, ◌≡◌, sym, ap, ◌∙◌, arith, List, [], ◌∷◌, ◌++◌, length, reverse, Result, Ok, Err}
 use Rattle.std.proofs.lemmas.Grind.{common_steps}
 use Rattle.std.proofs.lemmas.List.{reverse-append, length-reverse}
 use mathlib.Core.List.{tail}
@@ -10,10 +10,11 @@ use Rattle.constants.specs.Kind.{nesting_role}
 use Rattle.constants.specs.Raw.{raw_kind}
 use Rattle.constants.specs.declared.Role.{Role}
 use Rattle.iter.specs.Step.{scan_of, step_of}
-use Rattle.iter.specs.Reading.{Reading, rec_at, read_of}
+use Rattle.iter.specs.Reading.{bytes_at, Reading, rec_at, read_of}
 use Rattle.iter.specs.declared.Scan.{Scan}
 use Rattle.iter.specs.declared.Next.{Next}
-use Rattle.iter.specs.declared.Next.TheVariants.{End, Record}
+use Rattle.iter.specs.declared.Record.{Record}
+use Rattle.iter.specs.declared.Next.TheVariants as N
 use Rattle.iter.proofs.Reading.{read_by}
 use Rattle.iter.proofs.Records.{kind_of}
 use Rattle.chain.specs.Finding.{Walk, refused_with}
@@ -39,9 +40,9 @@ turn_role kind n l q d = grind (arith, common_steps)
 -- the walk, by what its first step says; `on` is the walk from a later position
 abbrev pub on_step : List ℕ → ℕ → Scan → Result Next Refusal → (ℕ → List ℕ → Walk) → List ℕ → Walk
 on_step s i c (Err e) on st = refused_with e
-on_step s i c (Ok (End p)) on st = refused_with NothingThere
-on_step s i c (Ok (Record kind index from len next)) on st =
-    on_turn (rec_at s c index from len) st (turn_of i index (raw_kind (take len (drop from s))) (length st)) (on next)
+on_step s i c (Ok (N.End p)) on st = refused_with NothingThere
+on_step s i c (Ok (N.Record it)) on st =
+    on_turn (rec_at s c it) st (turn_of i it.index (raw_kind (bytes_at s it)) (length st)) (on it.next)
 
 -- the walk from a position, with a stack
 abbrev pub walk_at : List ℕ → ℕ → ℕ → List ℕ → Walk
@@ -50,43 +51,43 @@ walk_at s i at st = walk_from i (read_of s at) st
 pub walk_by : (s : List ℕ) (i at : ℕ) (st : List ℕ) (n : Result Next Refusal) → (scan_of s at).step ≡ n → walk_at s i at st ≡ on_step s i (scan_of s at) n (walk_at s i) st
 unfolding walk_from walk_on
 walk_by s i at st (Err x) e = ap (λ (y : Reading). walk_from i y st) (read_by s at (Err x) e)
-walk_by s i at st (Ok (End p)) e = ap (λ (x : Reading). walk_from i x st) (read_by s at (Ok (End p)) e)
-walk_by s i at st (Ok (Record kind index from len next)) e = ap (λ (x : Reading). walk_from i x st) (read_by s at (Ok (Record kind index from len next)) e)
+walk_by s i at st (Ok (N.End p)) e = ap (λ (x : Reading). walk_from i x st) (read_by s at (Ok (N.End p)) e)
+walk_by s i at st (Ok (N.Record it)) e = ap (λ (x : Reading). walk_from i x st) (read_by s at (Ok (N.Record it)) e)
 
 -- the loop's invariant
 abbrev pub Walking : List ℕ → ℕ → ℕ → List ℕ → ℕ → ℕ → Type 0
 Walking s start i chain at read = Going (walk_at s i) s start chain at read
 
 module _ (i : ℕ) {s : List ℕ} {start : ℕ} {chain : List ℕ} {at read : ℕ} (g : Walking s start i chain at read) where
-  pub at_end : {n : Next} {p : ℕ} → Ok n ≡ step_of s at → n ≡ End p → Err NothingThere ≡ walk_of s start i
+  pub at_end : {n : Next} {p : ℕ} → Ok n ≡ step_of s at → n ≡ N.End p → Err NothingThere ≡ walk_of s start i
   unfolding step_of walk_of
-  at_end {p = p} e f = ends g (walk_by s i at (reverse chain) (Ok (End p)) (sym e ∙ ap Ok f))
+  at_end {p = p} e f = ends g (walk_by s i at (reverse chain) (Ok (N.End p)) (sym e ∙ ap Ok f))
 
   pub at_refused : {x : Refusal} → Err x ≡ step_of s at → Err x ≡ walk_of s start i
   unfolding step_of walk_of
   at_refused {x} e = ends g (walk_by s i at (reverse chain) (Err x) (sym e))
 
-module _ (i : ℕ) {s : List ℕ} {start : ℕ} {chain : List ℕ} {at read kind index from len next : ℕ}
-    (y : AtRecord (walk_at s i) s start chain at read kind index from len next) {d : ℕ} (ed : d ≡ length chain) where
+module _ (i : ℕ) {s : List ℕ} {start : ℕ} {chain : List ℕ} {at read : ℕ} {it : Record}
+    (y : AtRecord (walk_at s i) s start chain at read it) {d : ℕ} (ed : d ≡ length chain) where
   -- the walk that is left, at each turn
-  left : {t : Result Turn Refusal} → t ≡ turn_of i index kind d →
-      walk_at s i at (reverse chain) ≡ on_turn (rec_at s (scan_of s at) index from len) (reverse chain) t (walk_at s i next)
+  left : {t : Result Turn Refusal} → t ≡ turn_of i it.index it.kind d →
+      walk_at s i at (reverse chain) ≡ on_turn (rec_at s (scan_of s at) it) (reverse chain) t (walk_at s i it.next)
   left e =
-      walk_by s i at (reverse chain) (Ok (Record kind index from len next)) y.yields
-      ∙ rw (sym (kind_of s at index from len next y.yields), length-reverse chain, sym ed, sym e)
+      walk_by s i at (reverse chain) (Ok (N.Record it)) y.yields
+      ∙ rw (sym (kind_of s at it y.yields), length-reverse chain, sym ed, sym e)
 
-  pub at_refusing : {x : Refusal} → Err x ≡ turn_of i index kind d → Err x ≡ walk_of s start i
+  pub at_refusing : {x : Refusal} → Err x ≡ turn_of i it.index it.kind d → Err x ≡ walk_of s start i
   unfolding walk_of
   at_refusing e = ends y.going (left e)
 
-  module _ {t : Turn} (e : Ok t ≡ turn_of i index kind d) where
-    pub going_stay : t ≡ T.Stay → Walking s start i chain next (read + 1)
+  module _ {t : Turn} (e : Ok t ≡ turn_of i it.index it.kind d) where
+    pub going_stay : t ≡ T.Stay → Walking s start i chain it.next (read + 1)
     going_stay f = turned y chain (left (ap Ok (sym f) ∙ e))
 
-    pub going_push : t ≡ T.Push → {ch : List ℕ} → ch ≡ chain ++ index ∷ [] → Walking s start i ch next (read + 1)
+    pub going_push : t ≡ T.Push → {ch : List ℕ} → ch ≡ chain ++ it.index ∷ [] → Walking s start i ch it.next (read + 1)
     going_push f c = pushed y c (left (ap Ok (sym f) ∙ e))
 
-    pub going_pop : t ≡ T.Pop → {ch : List ℕ} (x : ℕ) → chain ≡ ch ++ x ∷ [] → Walking s start i ch next (read + 1)
+    pub going_pop : t ≡ T.Pop → {ch : List ℕ} (x : ℕ) → chain ≡ ch ++ x ∷ [] → Walking s start i ch it.next (read + 1)
     going_pop f {ch} x c =
         let rest : tail (reverse chain) ≡ reverse ch = rw (c, reverse-append ch (x ∷ [])) in
         turned y ch (rw rest at (left (ap Ok (sym f) ∙ e)))

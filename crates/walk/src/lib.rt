@@ -9,7 +9,7 @@ ghost use Rattle.walk.specs.Walk.{turn_of, walk_of};
 use chain::{Chain, Found, MAX_DEPTH};
 use common::Refusal;
 use constants::Role;
-use iter::Next;
+use iter::{Next, Record};
 
 /// What the walk does at a record that it reads.
 #[derive(Clone, Copy, Debug, PartialEq, Eq)]
@@ -27,18 +27,18 @@ pub enum Turn {
     Found,
 }
 
-/// The turn at a record of this kind and index, on the way to i, with so many openers open.
+/// The turn at a record, on the way to i, with so many openers open. (The depth is all that it needs of the chain.)
 #[tactic(auto, unfolding(crate::specs::Walk::turn_of))]
-fn turn_at(kind: u16, index: usize, i: usize, depth: usize) -> Result<Turn, Refusal>
-    ensures { result ≡ turn_of i index kind depth }
+fn turn_at(r: Record, i: usize, depth: usize) -> Result<Turn, Refusal>
+    ensures { result ≡ turn_of i r.index r.kind depth }
 {
-    if index == i {
+    if r.index == i {
         return Ok(Turn::Found);
     }
-    if i < index {
+    if i < r.index {
         return Err(Refusal::NothingThere);
     }
-    match constants::nesting_role(kind) {
+    match constants::nesting_role(r.kind) {
         Role::Opens => {
             if MAX_DEPTH <= depth {
                 return Err(Refusal::TooDeep(0));
@@ -63,20 +63,16 @@ pub fn walk(s: &[u8], start: usize, i: usize) -> Result<Found, Refusal>
     let mut chain = Chain::new();
     let mut at = start;
     let mut read: usize = 0;
+    // By position: `step` says of a record what an Iterator would, and the five loops from step to step have one form.
     loop {
         match iter::step(s, at)? {
             Next::End(_) => return Err(Refusal::NothingThere),
-            Next::Record {
-                kind,
-                index,
-                next,
-                ..
-            } => {
-                at = next;
+            Next::Record(r) => {
+                at = r.next;
                 read += 1;
-                match turn_at(kind, index, i, chain.len())? {
+                match turn_at(r, i, chain.len())? {
                     Turn::Stay => {}
-                    Turn::Push => chain.push(index as u32),
+                    Turn::Push => chain.push(r.index as u32),
                     Turn::Pop => {
                         chain.pop();
                     }

@@ -10,12 +10,6 @@ loop-stack-init c =
     checking_first _ _ c.new-stack.ensures
     (λ i. record { records = z.0 i; bytes = z.1.0 i; fillers = z.1.1.0 i; filler_bytes = z.1.1.1.0 i; openers = z.1.1.1.1.0 i; deepest = z.1.1.1.1.1 i })
 
-pub overflow_add-n : goal.overflow_add-n
-overflow_add-n c = omega (arith, c.loop-stack.invariant, turned c.loop-stack.invariant c.scan_at-scan.ensures)
-
-pub overflow_add-n-in-loop-stack : goal.overflow_add-n-in-loop-stack
-overflow_add-n-in-loop-stack c = omega (arith, c.loop-stack.invariant, turned c.loop-stack.invariant c.scan_at-scan.ensures)
-
 pub returns-in_err-scan-clause-value : goal.returns-in_err-scan-clause-value
 returns-in_err-scan-clause-value c = search (rules, at_refused (turned c.loop-stack.invariant c.scan_at-scan.ensures) c.in_err-scan.was)
 
@@ -24,33 +18,6 @@ returns-in-End-clause-value c = c.at_end.ensures ∙ rw c.deref.ensures.0 (at_la
 
 pub returns-in-End-clause-adds_up : goal.returns-in-End-clause-adds_up
 returns-in-End-clause-adds_up c = sums _ _ _ (c.at_end.ensures ∙ rw c.deref.ensures.0 (at_last (turned c.loop-stack.invariant c.scan_at-scan.ensures) c.in_ok-scan.was c.in-End.is))
-
-pub overflow_add-n-in-Record-2 : goal.overflow_add-n-in-Record-2
-overflow_add-n-in-Record-2 c = omega (arith, c.loop-stack.invariant, yielded c.loop-stack.invariant c.scan_at-scan.ensures c.in_ok-scan.was c.in-Record.is)
-
-pub overflow_add-n-in-Record-3 : goal.overflow_add-n-in-Record-3
-overflow_add-n-in-Record-3 c = omega (arith, c.loop-stack.invariant, yielded c.loop-stack.invariant c.scan_at-scan.ensures c.in_ok-scan.was c.in-Record.is)
-
-pub slice_bounds-act_at-count : goal.slice_bounds-act_at-count
-slice_bounds-act_at-count c = omega (arith, c.loop-stack.invariant, yielded c.loop-stack.invariant c.scan_at-scan.ensures c.in_ok-scan.was c.in-Record.is)
-
-pub slice_bounds-act_at-start : goal.slice_bounds-act_at-start
-slice_bounds-act_at-start c = omega (arith, c.loop-stack.invariant, yielded c.loop-stack.invariant c.scan_at-scan.ensures c.in_ok-scan.was c.in-Record.is)
-
-pub slice_bounds-act_at-end : goal.slice_bounds-act_at-end
-slice_bounds-act_at-end c = omega (arith, c.loop-stack.invariant, yielded c.loop-stack.invariant c.scan_at-scan.ensures c.in_ok-scan.was c.in-Record.is)
-
-pub loop-stack-smaller-in-Stay : goal.loop-stack-smaller-in-Stay
-loop-stack-smaller-in-Stay c = omega (arith, c.loop-stack.invariant, yielded c.loop-stack.invariant c.scan_at-scan.ensures c.in_ok-scan.was c.in-Record.is)
-
-pub loop-stack-smaller-in-Push : goal.loop-stack-smaller-in-Push
-loop-stack-smaller-in-Push c = omega (arith, c.loop-stack.invariant, yielded c.loop-stack.invariant c.scan_at-scan.ensures c.in_ok-scan.was c.in-Record.is)
-
-pub loop-stack-smaller : goal.loop-stack-smaller
-loop-stack-smaller c = omega (arith, c.loop-stack.invariant, yielded c.loop-stack.invariant c.scan_at-scan.ensures c.in_ok-scan.was c.in-Record.is)
-
-pub act_at-requires : goal.act_at-requires
-act_at-requires c = (yielded c.loop-stack.invariant c.scan_at-scan.ensures c.in_ok-scan.was c.in-Record.is).kind_is
 
 pub returns-in_err-act_at-in-Record-clause-value : goal.returns-in_err-act_at-in-Record-clause-value
 returns-in_err-act_at-in-Record-clause-value c = let y = yielded c.loop-stack.invariant c.scan_at-scan.ensures c.in_ok-scan.was c.in-Record.is in search (rules, at_refusing y (acted y c.deref-in-Record.ensures.0 c.in_err-act_at-in-Record.ensures))

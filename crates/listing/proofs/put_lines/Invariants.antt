@@ -3,8 +3,8 @@ use Rattle.std.proofs.Common.{◌-◌, length}
 use Rattle.listing.proofs.Listings.{Listing}
 use Rattle.listing.proofs.put_lines.Given as goal
 
-abbrev pub invariant-loop-index : goal.invariant-loop-index
-invariant-loop-index l = Listing l.s l.initial.text l.text l.at
+abbrev pub invariant-loop-r : goal.invariant-loop-r
+invariant-loop-r l = Listing l.s l.initial.text l.text l.at
 
-abbrev pub decreases-loop-index : goal.decreases-loop-index
-decreases-loop-index l = length l.s - l.at
+abbrev pub decreases-loop-r : goal.decreases-loop-r
+decreases-loop-r l = length l.s - l.at
