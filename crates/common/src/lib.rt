@@ -9,7 +9,7 @@ ghost use Rattle.common.specs.Refused.{refusal_number, refusal_position, refusal
 
 use thiserror::Error;
 
-/// Why a call refuses. A position is 0 where the call names none, as C is told.
+/// Why a call refuses. A position is 0 where the call names none: C is told 0.
 #[derive(Clone, Copy, Debug, PartialEq, Eq, Error)]
 pub enum Refusal {
     /// 1: the bytes run out, at this position.

@@ -1,4 +1,5 @@
-// Processors and source languages by the codes that compilers give them (pdb's src/symbol/constants.rs).
+// Processors and source languages by the codes that compilers give them (pdb's src/symbol/constants.rs). (Numbers, where pdb has enums: so
+// document 01 says, and C is told them.)
 ghost use Rattle.std.specs.Prelude.{◌≡◌};
 ghost use Rattle.constants.specs.Processor.{cpu_type_of};
 ghost use Rattle.constants.specs.Language.{source_language};

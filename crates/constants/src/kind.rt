@@ -22,7 +22,7 @@ pub fn starts_scope(s: &[u8]) -> bool
     super::role_of(raw_kind(s)) == Role::Opens
 }
 
-/// Whether the record closes a scope.
+/// Whether the record closes a scope. (Two functions, as pdb has them.)
 pub fn ends_scope(s: &[u8]) -> bool
     ensures { result ≡ ends_scope (raw_kind s.now) }
 {

@@ -171,7 +171,7 @@ pub fn role_of(kind: u16) -> Role
     table::entry(kind).1
 }
 
-/// What the check and the finders take records of this kind for.
+/// What the check and the finders take records of this kind for. (As `role_of` today; a request will move it apart.)
 #[tactic(auto, unfolding(crate::specs::Kind::nesting_role))]
 pub fn nesting_role(kind: u16) -> Role
     ensures { result ≡ nesting_role kind }

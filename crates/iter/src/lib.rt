@@ -1,7 +1,7 @@
 // Reading a stream of records one step at a time (pdb's SymbolIter: seek, then next).
 //
-// A step is asked by a position, as C asks, and keeps none for the next; so are the calls that are made of steps. It makes no Iterator: the check counts what the last step passes
-// over, the jump finder goes on behind a closer, and the climb finder goes by parent fields.
+// A step is asked by a position, as C asks, and keeps none for the next; so are the calls that are made of steps. It makes no Iterator: the
+// check counts what the last step passes over, the jump finder goes on behind a closer, and the climb finder goes by parent fields.
 #![tactic(auto, unfolding(crate::specs::Step::frame_at, crate::specs::Step::scan_of, crate::specs::Step::step_of))]
 
 ghost use Rattle.std.specs.Prelude.{◌≡◌, suc, ◌≤◌, length};

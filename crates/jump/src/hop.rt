@@ -63,7 +63,7 @@ pub fn hop_at(r: Record, rec: &[u8], i: usize, depth: usize) -> Result<Hop, Refu
     }
 }
 
-/// The position behind the closer at an end field.
+/// The position behind the closer at an end field, which is a position.
 #[tactic(auto, unfolding(crate::specs::Hop::land_of, iter::specs::Step::step_of))]
 pub fn land_at(s: &[u8], end: usize) -> Result<usize, Refusal>
     ensures { result ≡ land_of s.now end }

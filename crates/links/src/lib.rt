@@ -11,7 +11,7 @@ use common::number::Number;
 /// The links of an opener.
 #[derive(Clone, Copy, Debug, PartialEq, Eq)]
 pub struct Links {
-    /// The position of the scope that encloses it, 0 where none does.
+    /// The position of the scope that encloses it, 0 where none does, as the field says: in a block it is a plain number.
     pub parent: u32,
 
     /// The position of the record that closes its scope.
@@ -19,6 +19,7 @@ pub struct Links {
 }
 
 /// The links of an opener; none where decode refuses it. Both fields stand behind the kind in every layout that opens a scope.
+/// (Required here alone: behind another kind these bytes are other fields.)
 #[tactic(auto, using(crate::proofs::Openers::links_there), unfolding(crate::specs::Links::links_of))]
 pub fn links_of(rec: &[u8]) -> Option<Links>
     requires { nesting_role_of rec.now ≡ Opens }

@@ -82,7 +82,7 @@ fn put_lines(text: &mut Text, s: &[u8]) -> Result<(), Refusal>
     ensures room { text.new.len + 50 ≤ TEXT_ROOM }
 {
     let mut at = 4;
-    // By position: `step` says of a record what an Iterator would, and the five loops from step to step have one form.
+    // By position: the check counts fillers and the jump leaves the row, so that an Iterator would serve the walk and the listing alone.
     loop {
         match iter::step(s, at)? {
             Next::End(_) => return Ok(()),

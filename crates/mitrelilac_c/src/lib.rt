@@ -1,4 +1,5 @@
 // The archive that C links: the calls of crate mitrelilac under their exported names. include/mitrelilac.h is their manual.
+// (A static library apart, since no program of Rattle can call one: replay calls crate mitrelilac.)
 //
 // Module `condition3`: what is proved of the check and the finders together.
 #![tactic(auto)]

@@ -21,7 +21,7 @@ pub struct Part {
     pub len: usize,
 }
 
-/// Kinds below this one have names of a length and bytes, the others names up to a zero.
+/// Kinds below this one have names of a length and bytes, the others names up to a zero. (A number, as all kinds.)
 pub const S_ST_MAX: u16 = 0x1100;
 
 /// How many bytes stand before the first zero, or the end.

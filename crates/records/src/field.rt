@@ -7,14 +7,14 @@ use super::SectionOffset;
 use common::Refusal;
 use common::buffer::ParseBuffer;
 
-/// A parent or a next: 0 means none.
+/// A parent or a next: 0 means none. (No `From`: 0 is none in these fields alone, and neither type is of this crate.)
 pub fn index_of(x: u32) -> Option<u32>
     ensures { result ≡ index_of x }
 {
     if x == 0 { None } else { Some(x) }
 }
 
-/// A module: 0 means none, else it is one less.
+/// A module: 0 means none, else it is one less. (No `From`, as above.)
 pub fn module_of(x: u16) -> Option<u16>
     ensures { result ≡ module_of x }
 {

@@ -1,5 +1,5 @@
 // The flags of a record: a type for each record that has some, with its masks and how it is read from its bits (pdb's
-// src/symbol/mod.rs).
+// src/symbol/mod.rs). Each has fields of its own names, as in pdb.
 ghost use Rattle.std.specs.Prelude.{◌≡◌};
 ghost use Rattle.records.specs.Flags.{procedure_flags, public_flags, export_flags, local_flags, separated_flags, compile_flags};
 

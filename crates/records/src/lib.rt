@@ -71,7 +71,8 @@ pub struct UserDefinedTypeSymbol {
 
 /// A variable that spans several registers. S_MANYREG, S_MANYREG_ST, S_MANYREG2, S_MANYREG2_ST.
 ///
-/// Its entries stand one after another from `first` on, the most significant register first; each is a register and a name.
+/// Its entries stand one after another from `first` on, the most significant register first; each is a register and a name. (No Vec of them:
+/// there is no heap, and C is told where they stand.)
 #[derive(Clone, Copy, Debug, PartialEq, Eq)]
 pub struct MultiRegisterVariableSymbol {
     /// The type of the variable.
@@ -167,11 +168,11 @@ pub struct CompilerVersion {
 /// How a module was compiled. S_COMPILE2, S_COMPILE2_ST, S_COMPILE3.
 #[derive(Clone, Copy, Debug, PartialEq, Eq)]
 pub struct CompileFlagsSymbol {
-    /// The source language, as `source_language` of crate constants reads it.
+    /// The source language, as `source_language` of crate constants reads it: a number, as C is told it.
     pub language: u8,
     /// The options of the compiler.
     pub flags: CompileFlags,
-    /// The processor that it was compiled for, as `cpu_type` of crate constants reads it.
+    /// The processor that it was compiled for, as `cpu_type` of crate constants reads it: a number as well.
     pub cpu_type: u16,
     /// The version of the front end.
     pub frontend_version: CompilerVersion,

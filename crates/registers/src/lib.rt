@@ -1,6 +1,7 @@
 // Register lists: a variable that lies in several registers.
 //
-// pdb collects the entries in a Vec. Here the record keeps their count and where the first one stands; module entry reads them.
+// pdb collects the entries in a Vec. Here the record keeps their count and where the first one stands; module entry reads them. The kind
+// stands beside the buffer, as in pdb.
 #![tactic(auto)]
 
 pub mod entry;

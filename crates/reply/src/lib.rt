@@ -33,8 +33,8 @@ pub fn answer<const N: usize>(out: &mut [u64], words: [u64; N]) -> u32
     0
 }
 
-/// End: 0, position. A record: 1, index, its bytes, next position. (Each answer has its own words, and number of words: what replies share is
-/// `answer` and `refuse`.)
+/// End: 0, position. A record: 1, index, its bytes, next position. (Each answer has its own words, and number of words: what replies share
+/// is `answer` and `refuse`.)
 pub fn reply_step(step: Result<Next, Refusal>, out: &mut [u64; 5]) -> u32
     ensures { Replied (step_reply step) result out.old out.new }
 {

@@ -7,7 +7,7 @@ ghost use Rattle.variant.specs.Numeric.{leaf, numeric};
 use common::Refusal;
 use common::buffer::ParseBuffer;
 
-/// From this prefix on, the prefix is not the value.
+/// From this prefix on, the prefix is not the value. (Prefixes are numbers, as in cvinfo.h: a file may have others.)
 pub const LF_NUMERIC: u16 = 0x8000;
 
 pub const LF_CHAR: u16 = 0x8000;

@@ -63,7 +63,7 @@ pub fn walk(s: &[u8], start: usize, i: usize) -> Result<Found, Refusal>
     let mut chain = Chain::new();
     let mut at = start;
     let mut read: usize = 0;
-    // By position: `step` says of a record what an Iterator would, and the five loops from step to step have one form.
+    // By position: the check counts fillers and the jump leaves the row, so that an Iterator would serve the walk and the listing alone.
     loop {
         match iter::step(s, at)? {
             Next::End(_) => return Err(Refusal::NothingThere),
