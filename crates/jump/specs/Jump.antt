@@ -14,6 +14,7 @@ use Rattle.jump.specs.declared.hop.Hop.{Hop}
 use Rattle.jump.specs.declared.hop.Hop.TheVariants as H
 use Rattle.jump.specs.Hop.{hop_of, land_of}
 
+-- stands where a step yields no record
 abbrev no_record : Record
 no_record = record { kind = 0; index = 0; start = 0; len = 0; next = 0 }
 
