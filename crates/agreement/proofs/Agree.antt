@@ -8,11 +8,12 @@ use Rattle.iter.specs.Reading.{Rec}
 use Rattle.iter.specs.declared.Record.{Record}
 use Rattle.iter.specs.declared.Next.TheVariants as N
 use Rattle.iter.proofs.Reading.{step_fits}
-use Rattle.chain.specs.Finding.{Walk, seen}
+use Rattle.chain.specs.Finding.{Search, seen}
 use Rattle.walk.proofs.Walks.{walk_at}
 use Rattle.jump.specs.Jump.{jump_from}
 use Rattle.check_nesting.specs.declared.act.Open.{Open}
-use Rattle.agreement.proofs.Nest.{open_at, indexes, length_indexes, NestsAt, First, done, passes, opens, closes, nests-ind}
+use Rattle.check_nesting.specs.Stack.{open_scope}
+use Rattle.agreement.proofs.Nest.{indexes, length_indexes, NestsAt, First, done, passes, opens, closes, nests-ind}
 use Rattle.agreement.proofs.Turns.{same_out, same_count, walk_end_lem, jump_end, walk_same, walk_past, jump_same, jump_past, walk_plain, jump_plain, walk_open, jump_push, jump_over}
 use Rattle.agreement.proofs.Skip.{through_one, Skip, skip}
 
@@ -39,18 +40,18 @@ below {X} e i a b = go (dec_lt e i)
     go (no q) = a (omega arith)
 
 -- both answer with one stack, jumping with no more records read; or both refuse with 14
-pub data Agree (j w : Walk) : Type 0 where
+pub data Agree (j w : Search) : Type 0 where
   both : {st : List ℕ} → j.out ≡ Ok st → w.out ≡ Ok st → length j.visited ≤ length w.visited → Agree j w
   none : j.out ≡ Err NothingThere → w.out ≡ Err NothingThere → Agree j w
 
 -- after records that jumping visits, and no fewer that walking does
-along : {j j' w w' : Walk} (n : ℕ) → j.out ≡ j'.out → length j.visited ≡ n + length j'.visited →
+along : {j j' w w' : Search} (n : ℕ) → j.out ≡ j'.out → length j.visited ≡ n + length j'.visited →
     w.out ≡ w'.out → n + length w'.visited ≤ length w.visited → Agree j' w' → Agree j w
 along n jo jv wo wv (both a b l) = both (jo ∙ a) (wo ∙ b) (omega arith)
 along n jo jv wo wv (none a b) = none (jo ∙ a) (wo ∙ b)
 
 -- one record that both visit
-along_one : {j j' w w' : Walk} (r : Rec) → j ≡ seen r j' → w ≡ seen r w' → Agree j' w' → Agree j w
+along_one : {j j' w w' : Search} (r : Rec) → j ≡ seen r j' → w ≡ seen r w' → Agree j' w' → Agree j w
 along_one r p q = along 1 (same_out p) (same_count p ∙ (omega arith)) (same_out q) (let n = same_count q in omega (arith, n))
 
 -- the innermost open scope reaches i
@@ -92,13 +93,13 @@ module _ (s : List ℕ) (i : ℕ) where
       let y = step_fits s p it h in
       let x : length (indexes st) ≡ length st = length_indexes st in
       let room : length (indexes st) < 64 = omega arith in
-      let w : Skip s i it.next (open_at it.index k.end ∷ st) k.end st = skip s i (open_at it.index k.end) st it.next d in
+      let w : Skip s i it.next (open_scope it.index k ∷ st) k.end st = skip s i (open_scope it.index k) st it.next d in
       let ny = step_fits s k.end w.closing w.lands in
       let ne : it.next ≤ k.end = w.from in
       below k.end i
       (λ (q : i ≤ k.end).
       along_one _ (jump_push s i p (indexes st) it h a r g ne q room) (walk_open s i p (indexes st) it h a r room)
-      (on it.next (open_at it.index k.end ∷ st) (omega arith) (omega arith) d q))
+      (on it.next (open_scope it.index k ∷ st) (omega arith) (omega arith) d q))
       (λ (q : k.end < i).
       let b = jump_over s i p (indexes st) it h a r g ne q w.lands w.here w.closer in
       let u = through_one _ (walk_open s i p (indexes st) it h a r room) in

@@ -6,14 +6,14 @@ use Rattle.common.specs.declared.Refusal.TheVariants.{NothingThere}
 use Rattle.constants.specs.Raw.{nesting_role_of}
 use Rattle.constants.specs.declared.Role.TheVariants.{Neither, Opens, Closes}
 use Rattle.iter.specs.Step.{scan_of}
-use Rattle.iter.specs.Reading.{bytes_at, Rec, Reading, rec_at, read_of, Some, Begins}
+use Rattle.iter.specs.Reading.{bytes_at, Rec, Reading, rec_at, read_of, OneOf, Begins}
 use Rattle.iter.specs.declared.Record.{Record}
 use Rattle.iter.specs.declared.Next.TheVariants as N
 use Rattle.iter.proofs.Reading.{step_fits, read_by}
 use Rattle.iter.proofs.Records.{Rising, rising}
-use Rattle.chain.specs.Finding.{Walk, seen}
+use Rattle.chain.specs.Finding.{Search, seen}
 use Rattle.check_nesting.specs.declared.act.Open.{Open}
-use Rattle.check_nesting.specs.Stack.{inner_index}
+use Rattle.check_nesting.specs.Stack.{open_scope, inner_index}
 use Rattle.check_nesting.proofs.Nesting.{good_nests}
 use Rattle.walk.specs.Walk.{walk_of}
 use Rattle.walk.proofs.Walks.{walk_at}
@@ -21,13 +21,13 @@ use Rattle.jump.specs.Jump.{jump_from, jump_of}
 use Rattle.climb.specs.Opener.{opener_of}
 use Rattle.climb.specs.Climb.{reached_by, climb_of}
 use Rattle.agreement.specs.Agreement.{OpenerBegins, Agreement, Condition3, answers_of}
-use Rattle.agreement.proofs.Nest.{open_at, indexes, length_indexes, NestsAt, First, done, passes, opens, closes, nests-ind}
+use Rattle.agreement.proofs.Nest.{indexes, length_indexes, NestsAt, First, done, passes, opens, closes, nests-ind}
 use Rattle.agreement.proofs.Turns.{same_out, walk_end_lem, walk_same, walk_past, walk_plain, walk_open, walk_close}
 use Rattle.agreement.proofs.Agree.{Order, less, same, more, order, Agree, both, none, agree}
 use Rattle.agreement.proofs.Parents.{opener-found, Up, top, over, up_later, up_out, climb_opener}
 
 -- of records that stand one behind the other from p on, one of index i lies at p or later
-some_from : (P : Rec → Type 0) (i : ℕ) → ((r : Rec) → P r → r.index ≡ i) → (p : ℕ) (rs : List Rec) → Rising p rs → Some P rs → p ≤ i
+some_from : (P : Rec → Type 0) (i : ℕ) → ((r : Rec) → P r → r.index ≡ i) → (p : ℕ) (rs : List Rec) → Rising p rs → OneOf P rs → p ≤ i
 some_from P i at p [] ri b = absurd b
 some_from P i at p (r ∷ rs) ri (inl e) = let l : p ≤ r.index = ri.0 in let f : r.index ≡ i = at r e in omega arith
 some_from P i at p (r ∷ rs) ri (inr b) =
@@ -36,7 +36,7 @@ some_from P i at p (r ∷ rs) ri (inr b) =
     omega arith
 
 -- an opener that begins is a record that begins
-some_of : (P Q : Rec → Type 0) → ((r : Rec) → P r → Q r) → (rs : List Rec) → Some P rs → Some Q rs
+some_of : (P Q : Rec → Type 0) → ((r : Rec) → P r → Q r) → (rs : List Rec) → OneOf P rs → OneOf Q rs
 some_of P Q f [] b = absurd b
 some_of P Q f (r ∷ rs) (inl x) = inl (f r x)
 some_of P Q f (r ∷ rs) (inr b) = inr (some_of P Q f rs b)
@@ -44,17 +44,17 @@ some_of P Q f (r ∷ rs) (inr b) = inr (some_of P Q f rs b)
 module _ (s : List ℕ) (P : Rec → Type 0) where
   -- one of the records that steps from p yield has the property: none does at the end, and else the first one or a later one
   abbrev From : ℕ → Type 0
-  From p = Some P (read_of s p).recs
+  From p = OneOf P (read_of s p).recs
 
   from_end : (p q : ℕ) → (scan_of s p).step ≡ Ok (N.End q) → From p → ⊥
-  from_end p q e b = subst (λ (r : Reading). Some P r.recs) (read_by s p (Ok (N.End q)) e) b
+  from_end p q e b = subst (λ (r : Reading). OneOf P r.recs) (read_by s p (Ok (N.End q)) e) b
 
   module _ (p : ℕ) (it : Record) (e : (scan_of s p).step ≡ Ok (N.Record it)) where
     from_is : From p → P (rec_at s (scan_of s p) it) ⊎ From it.next
-    from_is b = subst (λ (r : Reading). Some P r.recs) (read_by s p (Ok (N.Record it)) e) b
+    from_is b = subst (λ (r : Reading). OneOf P r.recs) (read_by s p (Ok (N.Record it)) e) b
 
     from_with : P (rec_at s (scan_of s p) it) ⊎ From it.next → From p
-    from_with b = subst (λ (r : Reading). Some P r.recs) (sym (read_by s p (Ok (N.Record it)) e)) b
+    from_with b = subst (λ (r : Reading). OneOf P r.recs) (sym (read_by s p (Ok (N.Record it)) e)) b
 
 module _ (s : List ℕ) (i : ℕ) where
   abbrev Is : Rec → Type 0
@@ -64,7 +64,7 @@ module _ (s : List ℕ) (i : ℕ) where
   IsOpener r = (r.index ≡ i) × (nesting_role_of r.bytes ≡ Opens)
 
   -- the walk from p, with the openers st open
-  abbrev walk_from_stack : ℕ → List Open → Walk
+  abbrev walk_from_stack : ℕ → List Open → Search
   walk_from_stack p st = walk_at s i p (indexes st)
 
   -- climbing gives a stack, reversed
@@ -90,7 +90,7 @@ module _ (s : List ℕ) (i : ℕ) where
         lost (λ b. elim (from_is s Is p it h b) [ inl e ↦ absurd (omega arith) | inr c ↦ d c ]) (same_out w ∙ q)
 
     -- none that comes later begins at the index of p's step or before it
-    later : (P : Rec → Type 0) → ((r : Rec) → P r → r.index ≡ i) → i ≤ it.index → Some P (read_of s it.next).recs → ⊥
+    later : (P : Rec → Type 0) → ((r : Rec) → P r → r.index ≡ i) → i ≤ it.index → OneOf P (read_of s it.next).recs → ⊥
     later P at l b =
         let y = step_fits s p it h in
         let f : it.next ≤ i = some_from P i at it.next (read_of s it.next).recs (rising s it.next) b in
@@ -133,12 +133,12 @@ module _ (s : List ℕ) (i : ℕ) where
       let y = step_fits s p it h in
       let x : length (indexes st) ≡ length st = length_indexes st in
       let room : length (indexes st) < 64 = omega arith in
-      let opener : Ok (inner_index st) ≡ opener_of s it.index = rw (← t) (opener-found s p it h r g) in
+      let parent : Ok (inner_index st) ≡ opener_of s it.index = rw (← t) (opener-found s p it h r g) in
       let below : Up s it.index st = up_later it.index (omega arith) u in
       meets p it st h
-      (λ a. past p it st h (open_at it.index l.end ∷ st) a (walk_open s i p (indexes st) it h a r room)
-      (on it.next (open_at it.index l.end ∷ st) (omega arith) (omega arith) d o (over (omega arith) z opener below)))
-      (λ e q. subst (λ (k : ℕ). climb_of s k ≡ reached_by (reverse (indexes st))) e (climb_opener s it.index st opener m below))
+      (λ a. past p it st h (open_scope it.index l ∷ st) a (walk_open s i p (indexes st) it h a r room)
+      (on it.next (open_scope it.index l ∷ st) (omega arith) (omega arith) d o (over (omega arith) z parent below)))
+      (λ e q. subst (λ (k : ℕ). climb_of s k ≡ reached_by (reverse (indexes st))) e (climb_opener s it.index st parent m below))
   met_on p _ (closes {it = it} {o = o} {st = st} h r t d) on m u =
       let y = step_fits s p it h in
       meets p it (o ∷ st) h
@@ -150,10 +150,10 @@ module _ (s : List ℕ) (i : ℕ) where
   met p d = nests-ind s Meets met_on p [] d (omega arith) top
 
 module _ (s : List ℕ) (start i : ℕ) where
-  abbrev jumped : Walk
+  abbrev jumped : Search
   jumped = jump_from s i start []
 
-  abbrev walked : Walk
+  abbrev walked : Search
   walked = walk_at s i start []
 
   join : Agree jumped walked → Met s i start [] → Agreement s start i (answers_of s start i)

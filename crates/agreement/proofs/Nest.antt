@@ -14,14 +14,9 @@ use Rattle.iter.proofs.Reading.{read_by}
 use Rattle.links.specs.Links.{links_of}
 use Rattle.links.specs.declared.Links.{Links}
 use Rattle.check_nesting.specs.declared.act.Open.{Open}
-use Rattle.check_nesting.specs.Stack.{inner_index}
+use Rattle.check_nesting.specs.Stack.{open_scope, inner_index}
 use Rattle.check_nesting.specs.Nesting as R
-use Rattle.check_nesting.specs.Nesting.{Nests}
-use Rattle.check_nesting.proofs.Nesting.{NestsIn}
-
--- an open opener
-abbrev pub open_at : ℕ → ℕ → Open
-open_at index end = record { index = index; end = end }
+use Rattle.check_nesting.specs.Nesting.{Nests, NestsIn}
 
 -- the indexes of a stack
 abbrev pub indexes : List Open → List ℕ
@@ -43,7 +38,7 @@ pub data First (s : List ℕ) : ℕ → List Open → Type 0 where
       nesting_role_of (bytes_at s it) ≡ Neither → NestsAt s it.next st → First s p st
   opens : {p : ℕ} {it : Record} {l : Links} {st : List Open} → (scan_of s p).step ≡ Ok (N.Record it) →
       nesting_role_of (bytes_at s it) ≡ Opens → links_of (bytes_at s it) ≡ Some l →
-      0 < it.index → l.parent ≡ inner_index st → length st < 64 → NestsAt s it.next (open_at it.index l.end ∷ st) → First s p st
+      0 < it.index → l.parent ≡ inner_index st → length st < 64 → NestsAt s it.next (open_scope it.index l ∷ st) → First s p st
   closes : {p : ℕ} {it : Record} {o : Open} {st : List Open} → (scan_of s p).step ≡ Ok (N.Record it) →
       nesting_role_of (bytes_at s it) ≡ Closes → o.end ≡ it.index → NestsAt s it.next st → First s p (o ∷ st)
 

@@ -9,23 +9,24 @@ use Rattle.iter.specs.declared.Scan.{Scan}
 use Rattle.iter.specs.declared.Record.{Record}
 use Rattle.iter.specs.declared.Next.TheVariants as N
 use Rattle.iter.proofs.Reading.{step_fits, again}
-use Rattle.chain.specs.Finding.{Walk, seen}
+use Rattle.chain.specs.Finding.{Search, seen}
 use Rattle.walk.proofs.Walks.{walk_at}
 use Rattle.check_nesting.specs.declared.act.Open.{Open}
-use Rattle.agreement.proofs.Nest.{open_at, indexes, length_indexes, NestsAt, First, done, passes, opens, closes, nests-ind}
+use Rattle.check_nesting.specs.Stack.{open_scope}
+use Rattle.agreement.proofs.Nest.{indexes, length_indexes, NestsAt, First, done, passes, opens, closes, nests-ind}
 use Rattle.agreement.proofs.Turns.{same_out, same_count, walk_plain, walk_open, walk_close}
 
 -- the walk w ends as v does, and visits more records
-pub record Through (w v : Walk) : Type 0 where
+pub record Through (w v : Search) : Type 0 where
   pub outs : w.out ≡ v.out
   pub more : length v.visited < length w.visited
 
-pub through_one : {w v : Walk} (r : Rec) → w ≡ seen r v → Through w v
+pub through_one : {w v : Search} (r : Rec) → w ≡ seen r v → Through w v
 through_one {w} {v} r e =
     let n : length w.visited ≡ suc (length v.visited) = same_count e in
     record { outs = same_out e; more = omega arith }
 
-pub through_more : {w v x : Walk} → Through w v → Through v x → Through w x
+pub through_more : {w v x : Search} → Through w v → Through v x → Through w x
 through_more a b =
     let m = a.more in
     let n = b.more in
@@ -69,9 +70,9 @@ module _ (s : List ℕ) (i : ℕ) (o : Open) (fs : List Open) where
       more-skip gs gs h (λ l. walk_plain s i p (indexes gs) it h l r) (on it.next gs (omega arith) (omega arith) d pre q)
   skip_on p gs (opens {it = it} {l = k} h r g z u m d) on pre q =
       let y = step_fits s p it h in
-      more-skip gs (open_at it.index k.end ∷ gs) h
+      more-skip gs (open_scope it.index k ∷ gs) h
       (λ a. walk_open s i p (indexes gs) it h a r (let f : length (indexes gs) ≡ length gs = length_indexes gs in omega arith))
-      (on it.next (open_at it.index k.end ∷ gs) (omega arith) (omega arith) d (open_at it.index k.end ∷ pre) (ap (λ (l : List Open). open_at it.index k.end ∷ l) q))
+      (on it.next (open_scope it.index k ∷ gs) (omega arith) (omega arith) d (open_scope it.index k ∷ pre) (ap (λ (l : List Open). open_scope it.index k ∷ l) q))
   skip_on p _ (closes {it = it} {o = x} {st = gs} h r u d) on [] q =
       let a : x ≡ o = cc in
       let c : gs ≡ fs = cc in

@@ -14,7 +14,7 @@ use Rattle.iter.specs.declared.Next.TheVariants as N
 use Rattle.iter.proofs.Records.{kind_of}
 use Rattle.links.specs.Links.{links_of}
 use Rattle.links.specs.declared.Links.{Links}
-use Rattle.chain.specs.Finding.{Walk, seen, found_at, refused_with}
+use Rattle.chain.specs.Finding.{Search, seen, found_at, refused_with}
 use Rattle.walk.specs.declared.Turn.{Turn}
 use Rattle.walk.specs.declared.Turn.TheVariants as T
 use Rattle.walk.specs.Walk.{turn_of, on_turn}
@@ -22,15 +22,15 @@ use Rattle.walk.proofs.Walks.{walk_at, walk_by}
 use Rattle.jump.specs.declared.hop.Hop.{Hop}
 use Rattle.jump.specs.declared.hop.Hop.TheVariants as H
 use Rattle.jump.specs.Hop.{hop_of, land_of}
-use Rattle.jump.specs.Jump.{yielded_at, on_hop, jump_from}
+use Rattle.jump.specs.Jump.{on_hop, jump_from}
 use Rattle.jump.proofs.Jumps.{jump_by_lem}
 
 -- equal walks end alike
-pub same_out : {w v : Walk} → w ≡ v → w.out ≡ v.out
-same_out = ap (λ (x : Walk). x.out)
+pub same_out : {w v : Search} → w ≡ v → w.out ≡ v.out
+same_out = ap (λ (x : Search). x.out)
 
-pub same_count : {w v : Walk} → w ≡ v → length w.visited ≡ length v.visited
-same_count = ap (λ (x : Walk). length x.visited)
+pub same_count : {w v : Search} → w ≡ v → length w.visited ≡ length v.visited
+same_count = ap (λ (x : Search). length x.visited)
 
 module _ (s : List ℕ) (i at : ℕ) (st : List ℕ) (it : Record) (e : (scan_of s at).step ≡ Ok (N.Record it)) where
   abbrev r : Rec
@@ -80,11 +80,11 @@ module _ (s : List ℕ) (i at : ℕ) (st : List ℕ) (it : Record) (e : (scan_of
       jump_push a h = jump_hop (Ok H.Push) (grind (arith, common_steps))
 
       pub jump_over : {to : Record} → k.end < i → (scan_of s k.end).step ≡ Ok (N.Record to) → to.index ≡ k.end → nesting_role_of (bytes_at s to) ≡ Closes →
-          jump_from s i at st ≡ seen r (seen (yielded_at s k.end) (jump_from s i to.next st))
+          jump_from s i at st ≡ seen r (seen (rec_at s (scan_of s k.end) to) (jump_from s i to.next st))
       unfolding hop_of land_of nesting_role_of
       jump_over {to} a h here c =
           let closer : nesting_role to.kind ≡ Closes = ap nesting_role (kind_of s k.end to h) ∙ c in
-          let landing : land_of s k.end ≡ Ok to.next = grind (arith, common_steps) in
+          let landing : land_of s k.end ≡ Ok to = grind (arith, common_steps) in
           jump_hop (Ok (H.Over k.end)) (grind (arith, common_steps)) ∙ rw landing
 
 pub walk_close : (s : List ℕ) (i at x : ℕ) (st : List ℕ) (it : Record) (e : (scan_of s at).step ≡ Ok (N.Record it)) → it.index < i →

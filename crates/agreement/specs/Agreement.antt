@@ -4,7 +4,7 @@ use Rattle.std.specs.Result.{result_unwrap_or}
 use Rattle.common.specs.declared.Refusal.{Refusal}
 use Rattle.common.specs.declared.Refusal.TheVariants.{NothingThere}
 use Rattle.constants.specs.declared.Role.TheVariants.{Opens}
-use Rattle.iter.specs.Reading.{read_of, Some, Begins}
+use Rattle.iter.specs.Reading.{read_of, OneOf, Begins}
 use Rattle.constants.specs.Raw.{nesting_role_of}
 use Rattle.chain.specs.declared.Found.{Found}
 use Rattle.check_nesting.specs.declared.Counts.{Counts}
@@ -16,7 +16,7 @@ use Rattle.agreement.specs.declared.Answers.{Answers}
 
 -- A scope opener is a record of a kind that the check takes as an opener.
 abbrev pub OpenerBegins : List ℕ → ℕ → ℕ → Type 0
-OpenerBegins s start i = Some (λ r. (r.index ≡ i) × (nesting_role_of r.bytes ≡ Opens)) (read_of s start).recs
+OpenerBegins s start i = OneOf (λ r. (r.index ≡ i) × (nesting_role_of r.bytes ≡ Opens)) (read_of s start).recs
 
 -- The enclosing scopes at a position are the positions on the walk rule's stack when it reads the record there, before that record is
 -- pushed or pops, outermost first.

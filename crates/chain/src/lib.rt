@@ -4,7 +4,7 @@
 #![tactic(auto)]
 
 ghost use Rattle.std.specs.Prelude.{◌≡◌, ◌<◌, [], ◌∷◌, ◌++◌, length};
-ghost use Rattle.chain.specs.Chain.{places};
+ghost use Rattle.chain.specs.Chain.{places, max_depth};
 
 use std::marker::Model;
 
@@ -24,11 +24,11 @@ impl Model for Chain {
 
     ghost Value = { List ℕ };
 
-    ghost use Rattle.chain.specs.Chain.{places};
+    ghost use Rattle.chain.specs.Chain.{places, max_depth};
 
     ghost view = { λ c. take c.depth c.at };
 
-    ghost invariant = { λ c. (c.depth ≤ 64) × (length (take c.depth c.at) ≡ c.depth) × (places (take c.depth c.at) ≡ c.at) };
+    ghost invariant = { λ c. (c.depth ≤ max_depth) × (length (take c.depth c.at) ≡ c.depth) × (places (take c.depth c.at) ≡ c.at) };
 
     ghost inverse = { λ xs. record { at = places xs; depth = length xs } };
 
@@ -55,7 +55,7 @@ impl Chain {
 
     /// Lists a position behind the others.
     pub fn push(&mut self, position: u32)
-        requires { length self.old < 64 }
+        requires { length self.old < max_depth }
         ensures { self.new ≡ self.old ++ position ∷ [] }
     {
         self.at[self.depth] = position;

@@ -11,22 +11,17 @@ use Rattle.check_nesting.specs.declared.act.Open.{Open}
 use Rattle.check_nesting.specs.declared.act.Act.{Act}
 use Rattle.check_nesting.specs.declared.act.Act.TheVariants as A
 use Rattle.check_nesting.specs.declared.Counts.{Counts}
-use Rattle.check_nesting.specs.Stack.{inner_index}
+use Rattle.check_nesting.specs.Stack.{open_scope, inner_index}
 use Rattle.check_nesting.specs.Act.{act_of}
 use Rattle.check_nesting.specs.Check.{Verdict, on_act, on_end, verdict_on, verdict_from, counts_of, answer_by, check_of}
-use Rattle.check_nesting.specs.Nesting.{Nests, done, passes, opens, closes}
+use Rattle.check_nesting.specs.Nesting.{Nests, done, passes, opens, closes, NestsIn}
 use Rattle.check_nesting.proofs.Acts.{stay_role, push_role, push_room, pop_role, pop_some}
-
--- reading ends at End, and its records nest in the stack
-pub record NestsIn (ending : Ending) (rs : List Rec) (st : List Open) : Type 0 where
-  pub at_end : ending ≡ ends
-  pub nests : Nests rs st
 
 -- what is known of an opener that is pushed
 pub record Opening (r : Rec) (st : List Open) (o : Open) (l : Links) : Type 0 where
   pub above : 0 < r.index
   pub parent : l.parent ≡ inner_index st
-  pub is : record { index = r.index; end = l.end } ≡ o
+  pub is : open_scope r.index l ≡ o
 
 module _ (r : Rec) (st : List Open) {o : Open} (e : Ok (A.Push o) ≡ act_of r st) where
   unread : links_of r.bytes ≡ None → ⊥

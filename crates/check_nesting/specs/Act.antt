@@ -6,12 +6,13 @@ use Rattle.constants.specs.declared.Role.{Role}
 use Rattle.constants.specs.declared.Role.TheVariants.{Neither, Opens, Closes}
 use Rattle.constants.specs.Raw.{nesting_role_of}
 use Rattle.iter.specs.Reading.{Rec}
+use Rattle.chain.specs.Chain.{max_depth}
 use Rattle.links.specs.Links.{links_of}
 use Rattle.links.specs.declared.Links.{Links}
 use Rattle.check_nesting.specs.declared.act.Open.{Open}
 use Rattle.check_nesting.specs.declared.act.Act.{Act}
 use Rattle.check_nesting.specs.declared.act.Act.TheVariants as A
-use Rattle.check_nesting.specs.Stack.{inner_index}
+use Rattle.check_nesting.specs.Stack.{open_scope, inner_index}
 
 -- Opener: 6 if decode refuses it, 7 at position 0, 8 if its parent field is not the innermost open index (0 if none), 9 if it would be the 65th.
 -- These carry the record's index, which for 7 is 0.
@@ -20,7 +21,7 @@ open_of None index st = Err (UnreadableOpener index)
 open_of (Some l) index st =
     cond (eqb index 0) (Err OpenerAt0)
     (cond (eqb l.parent (inner_index st))
-    (cond (leb 64 (length st)) (Err (TooDeep index)) (Ok (A.Push (record { index = index; end = l.end }))))
+    (cond (leb max_depth (length st)) (Err (TooDeep index)) (Ok (A.Push (open_scope index l))))
     (Err (WrongParent index)))
 
 -- Closer: 10, then 11 if the innermost opener's end field is not this index; else that opener is closed.

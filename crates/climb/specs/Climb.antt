@@ -2,6 +2,7 @@
 use Rattle.std.specs.Prelude.{ℕ, zero, suc, List, [], ◌∷◌, cond, length, leb, eqb, Result, Ok, Err}
 use Rattle.common.specs.declared.Refusal.{Refusal}
 use Rattle.common.specs.declared.Refusal.TheVariants.{TooDeep, UnusableLink}
+use Rattle.chain.specs.Chain.{max_depth}
 use Rattle.chain.specs.Finding.{answer_of}
 use Rattle.chain.specs.declared.Found.{Found}
 use Rattle.climb.specs.Opener.{opener_of}
@@ -25,7 +26,7 @@ climb_on (suc room) s index parent st =
     (on_parent (opener_of s parent) (λ next. climb_on room s parent next (parent ∷ st))))
 
 abbrev pub climb_by : List ℕ → ℕ → Result ℕ Refusal → Result Found Refusal
-climb_by s i (Ok parent) = climb_on 64 s i parent []
+climb_by s i (Ok parent) = climb_on max_depth s i parent []
 climb_by s i (Err e) = Err e
 
 unfoldable pub climb_of : List ℕ → ℕ → Result Found Refusal

@@ -6,6 +6,7 @@
 pub mod opener;
 
 ghost use Rattle.std.specs.Prelude.{◌≡◌, []};
+ghost use Rattle.chain.specs.Chain.{max_depth};
 ghost use Rattle.climb.specs.Climb.{climb_on, climb_of};
 
 use chain::{Chain, Found, MAX_DEPTH};
@@ -14,7 +15,7 @@ use common::Refusal;
 /// The climb from an opener, whose parent field is `first`. (By position, which parent fields are.)
 #[tactic(auto, using(crate::proofs::Openers::opener_fits, crate::proofs::Climbs::at_top, crate::proofs::Climbs::at_full))]
 fn climb_from(s: &[u8], i: usize, first: usize) -> Result<Found, Refusal>
-    ensures { result ≡ climb_on 64 s.now i first [] }
+    ensures { result ≡ climb_on max_depth s.now i first [] }
 {
     let mut chain = Chain::new();
     let mut index = i;

@@ -25,9 +25,9 @@ separated_code = do
   len ← u32
   flags ← u32
   offset ← u32
-  parentOffset ← u32
+  parent_offset ← u32
   section ← u16
-  parentSection ← u16
+  parent_section ← u16
   done
       (SeparatedCode
       (record {
@@ -36,5 +36,5 @@ separated_code = do
         len = len;
         flags = separated_flags flags;
         offset = record { offset = offset; section = section };
-        parent_offset = record { offset = parentOffset; section = parentSection };
+        parent_offset = record { offset = parent_offset; section = parent_section };
       }))

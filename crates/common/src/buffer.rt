@@ -1,7 +1,7 @@
 // Lent bytes that are read from a position on (pdb's ParseBuffer).
 #![tactic(auto, unfolding(crate::specs::Reader::number))]
 
-ghost use Rattle.std.specs.Prelude.{◌≡◌, ◌+◌, drop, length, leb};
+ghost use Rattle.std.specs.Prelude.{◌≡◌, ◌+◌, drop, length, leb, OnErr};
 ghost use Rattle.common.specs.Reader.{number};
 ghost use Rattle.common.specs.Buffer.{Reads};
 
@@ -41,9 +41,10 @@ impl<'b> ParseBuffer<'b> {
         n <= self.bytes.len() && self.pos <= self.bytes.len() - n
     }
 
-    /// Reads a number.
+    /// Reads a number, or moves nothing.
     pub fn parse<T: Number>(&mut self) -> Result<T, Refusal>
-        ensures { Reads (number T.SIZE T.of) self.old result self.new }
+        ensures reads { Reads (number T.SIZE T.of) self.old result self.new }
+        ensures stays { OnErr result (self.new.pos ≡ self.old.pos) }
     {
         if !self.has_room(T::SIZE) {
             return Err(Refusal::UnexpectedEof(0));

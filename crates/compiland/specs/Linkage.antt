@@ -28,15 +28,15 @@ abbrev pub trampoline : Reader SymbolData
 trampoline = do
   type ← u16
   size ← u16
-  thunkOffset ← u32
-  targetOffset ← u32
-  thunkSection ← u16
-  targetSection ← u16
+  thunk_offset ← u32
+  target_offset ← u32
+  thunk_section ← u16
+  target_section ← u16
   done
       (Trampoline
       (record {
         tramp_type = trampoline_of type;
         size = size;
-        thunk = record { offset = thunkOffset; section = thunkSection };
-        target = record { offset = targetOffset; section = targetSection };
+        thunk = record { offset = thunk_offset; section = thunk_section };
+        target = record { offset = target_offset; section = target_section };
       }))

@@ -1,7 +1,7 @@
 // The records that say how the module was compiled: the flags, and the versions of the compiler.
 ghost use Rattle.std.specs.Prelude.{◌≡◌};
 ghost use Rattle.common.specs.Buffer.{Reads};
-ghost use Rattle.compiland.specs.Compile.{versions, compile};
+ghost use Rattle.compiland.specs.Compile.{version, compile};
 
 use common::Refusal;
 use common::buffer::ParseBuffer;
@@ -13,7 +13,7 @@ use records::{CompileFlagsSymbol, CompilerVersion, Decoded, SymbolData};
 
 /// Reads a version: S_COMPILE3 alone has the fourth number.
 fn parse_version(buf: &mut ParseBuffer, compile3: bool) -> Result<CompilerVersion, Refusal>
-    ensures { Reads (versions compile3) buf.old result buf.new }
+    ensures { Reads (version compile3) buf.old result buf.new }
 {
     Ok(CompilerVersion {
         major: buf.parse()?,

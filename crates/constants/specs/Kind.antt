@@ -110,16 +110,16 @@ abbrev pub role : Entry → Role
 role (kind n c r) = r
 
 -- the entry of a kind; a kind that is not listed is not read and has no part in a scope
-unfoldable pub find : ℕ → List Entry → Entry
-find k [] = kind k Unknown Neither
-find k (e ∷ es) = cond (eqb k (kind_number e)) e (find k es)
+unfoldable pub entry_of : ℕ → List Entry → Entry
+entry_of k [] = kind k Unknown Neither
+entry_of k (e ∷ es) = cond (eqb k (kind_number e)) e (entry_of k es)
 
 -- what decode reads; `Unknown` is refused by 3 (`UnimplementedSymbolKind`)
 unfoldable pub class_of : ℕ → Class
-class_of k = class (find k kinds)
+class_of k = class (entry_of k kinds)
 
 unfoldable pub role_of : ℕ → Role
-role_of k = role (find k kinds)
+role_of k = role (entry_of k kinds)
 
 abbrev pub opens : Role → Bool
 opens Neither = false
@@ -131,11 +131,11 @@ closes Neither = false
 closes Opens = false
 closes Closes = true
 
--- opener, held against `starts_scope`
+-- opener, held against pdb's `starts_scope`
 unfoldable pub starts_scope : ℕ → Bool
 starts_scope k = opens (role_of k)
 
--- closer, held against `ends_scope`
+-- closer, held against pdb's `ends_scope`
 unfoldable pub ends_scope : ℕ → Bool
 ends_scope k = closes (role_of k)
 

@@ -1,6 +1,6 @@
 // The processors by their codes, 0 to 0x100, in the constant table that document 01 asks for. A code that none has reads as that of
 // Intel8080, 0.
-pub const CPU_TYPES: [u16; 257] = [
+pub static CPU_TYPES: [u16; 257] = [
     0x0, // Intel8080
     0x1, // Intel8086
     0x2, // Intel80286

@@ -3,14 +3,14 @@ use Rattle.std.specs.Prelude.{ℕ, ◌≡◌, refl, false, List, [], ◌∷◌, 
 use Rattle.std.proofs.Common.{ap, ◌∙◌, inl, inr, arith}
 use Rattle.std.specs.Borrow.{Bor}
 use Rattle.common.specs.declared.Refusal.{Refusal}
-use Rattle.common.specs.declared.Refusal.TheVariants.{UnexpectedEof, SymbolTooShort, UnexpectedNumericPrefix, NothingThere}
+use Rattle.common.specs.Refused.{told_of, told}
 use Rattle.common.specs.Reader.{number}
 use Rattle.common.specs.Bytes.{le, signed}
 use Rattle.names.specs.declared.Part.{Part}
 use Rattle.names.specs.Name.{symbol_name, cstring, bytes, run, bytes_of}
 use Rattle.variant.specs.declared.Variant.TheVariants.{I16, U8}
 use Rattle.variant.specs.Numeric.{numeric}
-use Rattle.constants.specs.Kind.{class_of, find, kinds, nesting_role, role_of}
+use Rattle.constants.specs.Kind.{class_of, entry_of, kinds, nesting_role, role_of}
 use Rattle.constants.specs.Raw.{nesting_role_of, raw_kind}
 use Rattle.records.specs.declared.SymbolData.TheVariants.{Constant, UserDefinedType}
 use Rattle.symbol.specs.Decode.{decode}
@@ -25,7 +25,7 @@ use Rattle.chain.specs.declared.Found.{Found}
 use Rattle.check_nesting.specs.Check.{check_of, verdict_from, verdict_on, counts_of, deepest_of}
 use Rattle.check_nesting.specs.Act.{act_of}
 use Rattle.walk.specs.Walk.{walk_of, walk_from, walk_on, turn_of}
-use Rattle.jump.specs.Jump.{jump_of, jump_from, jump_by, jump_body, yielded_at}
+use Rattle.jump.specs.Jump.{jump_of, jump_from, jump_by, jump_body}
 use Rattle.jump.specs.Hop.{hop_of, land_of}
 use Rattle.climb.specs.Climb.{climb_of, climb_on}
 use Rattle.climb.specs.Opener.{opener_of}
@@ -48,12 +48,17 @@ unfolding stream_a step_of scan_of scan_from frame_at read_of read_from le
 steps = tt
 
 decoding : Unit {0}
-unfolding decode number symbol_name cstring bytes run le signed class_of find kinds
+unfolding decode number symbol_name cstring bytes run le signed class_of entry_of kinds
 decoding = tt
 
 scopes : Unit {0}
-unfolding steps decoding nesting_role_of raw_kind nesting_role role_of links_of walk_of walk_from walk_on turn_of jump_of jump_from jump_by jump_body yielded_at hop_of land_of climb_of climb_on opener_of
+unfolding steps decoding nesting_role_of raw_kind nesting_role role_of links_of walk_of walk_from walk_on turn_of jump_of jump_from jump_by jump_body hop_of land_of climb_of climb_on opener_of
 scopes = tt
+
+-- a refusal: its number, its position, and the kind or the prefix
+abbrev Refuses : {A : Type 0} → Result A Refusal → ℕ → ℕ → ℕ → Type 0
+Refuses (Ok a) number position detail = ⊥
+Refuses (Err e) number position detail = told_of e ≡ told number position detail
 
 -- an answer of a finder: the scopes that its chain lists, and the count
 abbrev found : List ℕ → ℕ → Result Found Refusal
@@ -90,11 +95,11 @@ unfolding scopes
 p3_jump = refl
 
 -- P4 i = 64: 14 both ways.
-p4_walk : walk_of stream_a 4 64 ≡ Err NothingThere
+p4_walk : Refuses (walk_of stream_a 4 64) 14 0 0
 unfolding scopes
 p4_walk = refl
 
-p4_jump : jump_of stream_a 4 64 ≡ Err NothingThere
+p4_jump : Refuses (jump_of stream_a 4 64) 14 0 0
 unfolding scopes
 p4_jump = refl
 
@@ -131,12 +136,12 @@ unfolding steps
 p6 = refl
 
 -- P7 `01 00`: 2 at 2.
-p7 : step_of (0x01 ∷ 0x00 ∷ []) 0 ≡ Err (SymbolTooShort 2)
+p7 : Refuses (step_of (0x01 ∷ 0x00 ∷ []) 0) 2 2 0
 unfolding steps
 p7 = refl
 
 -- P8 `02 00 06`: 1 at 2.
-p8 : step_of (0x02 ∷ 0x00 ∷ 0x06 ∷ []) 0 ≡ Err (UnexpectedEof 2)
+p8 : Refuses (step_of (0x02 ∷ 0x00 ∷ 0x06 ∷ []) 0) 1 2 0
 unfolding steps
 p8 = refl
 
@@ -161,9 +166,9 @@ p10 : decode record10 ≡ Ok (Constant (record { managed = false; type_index = 0
 unfolding decoding
 p10 = refl
 
-p10-name : Names record10 (0x6B ∷ [])
+p10_name : Names record10 (0x6B ∷ [])
 unfolding decoding name_of bytes_of
-p10-name lent given e is = is.bytes ∙ ap (λ (s : List ℕ). bytes_of s (part 10 1)) e
+p10_name lent given e is = is.bytes ∙ ap (λ (s : List ℕ). bytes_of s (part 10 1)) e
 
 -- With `00 80 FF`: u8 255.
 p10' : decode (0x07 ∷ 0x11 ∷ 0x00 ∷ 0x10 ∷ 0x00 ∷ 0x00 ∷ 0x00 ∷ 0x80 ∷ 0xFF ∷ 0x6B ∷ 0x00 ∷ []) ≡ Ok (Constant (record { managed = false; type_index = 0x1000; value = U8 255; name = part 9 1 }), 11)
@@ -178,15 +183,15 @@ p11 : decode record11 ≡ Ok (UserDefinedType (record { type_index = 0x74; name 
 unfolding decoding
 p11 = refl
 
-p11-name : Names record11 (0x61 ∷ 0x62 ∷ [])
+p11_name : Names record11 (0x61 ∷ 0x62 ∷ [])
 unfolding decoding name_of bytes_of
-p11-name lent given e is = is.bytes ∙ ap (λ (s : List ℕ). bytes_of s (part 7 2)) e
+p11_name lent given e is = is.bytes ∙ ap (λ (s : List ℕ). bytes_of s (part 7 2)) e
 
 -- P12 prefix `05 80`: 4. So of the numeric value, and of a constant that has it.
-p12 : numeric (0x05 ∷ 0x80 ∷ []) 0 ≡ Err (UnexpectedNumericPrefix 0x8005)
+p12 : Refuses (numeric (0x05 ∷ 0x80 ∷ []) 0) 4 0 0x8005
 unfolding decoding
 p12 = refl
 
-p12-decode : decode (0x07 ∷ 0x11 ∷ 0x00 ∷ 0x10 ∷ 0x00 ∷ 0x00 ∷ 0x05 ∷ 0x80 ∷ 0xFF ∷ 0xFF ∷ 0x6B ∷ 0x00 ∷ []) ≡ Err (UnexpectedNumericPrefix 0x8005)
+p12_decode : Refuses (decode (0x07 ∷ 0x11 ∷ 0x00 ∷ 0x10 ∷ 0x00 ∷ 0x00 ∷ 0x05 ∷ 0x80 ∷ 0xFF ∷ 0xFF ∷ 0x6B ∷ 0x00 ∷ [])) 4 0 0x8005
 unfolding decoding
-p12-decode = refl
+p12_decode = refl

@@ -11,7 +11,7 @@ use Rattle.constants.specs.Kind.{nesting_role}
 use Rattle.constants.specs.Raw.{raw_kind, nesting_role_of}
 use Rattle.constants.specs.declared.Role.{Role}
 use Rattle.iter.specs.Step.{scan_of}
-use Rattle.iter.specs.Reading.{Rec, ends, refuses, Reading, bytes_at, rec_at, ended, more, read_of, Some, Begins, begins_at}
+use Rattle.iter.specs.Reading.{Rec, ends, refuses, Reading, bytes_at, rec_at, ended, more, read_of, OneOf, Begins, begins_at}
 use Rattle.iter.specs.declared.Next.{Next}
 use Rattle.iter.specs.declared.Record.{Record}
 use Rattle.iter.specs.declared.Next.TheVariants as N
@@ -96,19 +96,19 @@ adds_up s =
     omega (arith, ih d, fillers_to s at it e, bytes-length s at it e))
 
 -- that a record begins at a position, and that the question whether one does is answered so, are one
-some_any : (i : ℕ) (rs : List Rec) → list_any (λ r. eqb r.index i) rs ≡ true → Some (λ r. r.index ≡ i) rs
-some_any i [] e = cc
-some_any i (r ∷ rs) e = grind (arith, common_steps, some_any i rs)
+one_of_any : (i : ℕ) (rs : List Rec) → list_any (λ r. eqb r.index i) rs ≡ true → OneOf (λ r. r.index ≡ i) rs
+one_of_any i [] e = cc
+one_of_any i (r ∷ rs) e = grind (arith, common_steps, one_of_any i rs)
 
-any_some : (i : ℕ) (rs : List Rec) → Some (λ r. r.index ≡ i) rs → list_any (λ r. eqb r.index i) rs ≡ true
-any_some i [] b = absurd b
-any_some i (r ∷ rs) (inl e) = rw (eq-eqb r.index i e)
-any_some i (r ∷ rs) (inr b) = rw (any_some i rs b, or-true)
+any_one_of : (i : ℕ) (rs : List Rec) → OneOf (λ r. r.index ≡ i) rs → list_any (λ r. eqb r.index i) rs ≡ true
+any_one_of i [] b = absurd b
+any_one_of i (r ∷ rs) (inl e) = rw (eq-eqb r.index i e)
+any_one_of i (r ∷ rs) (inr b) = rw (any_one_of i rs b, or-true)
 
 pub begins : (s : List ℕ) (start i : ℕ) → begins_at s start i ≡ true → Begins s start i
 unfolding begins_at
-begins s start i = some_any i (read_of s start).recs
+begins s start i = one_of_any i (read_of s start).recs
 
 pub begins_at_lem : (s : List ℕ) (start i : ℕ) → Begins s start i → begins_at s start i ≡ true
 unfolding begins_at
-begins_at_lem s start i = any_some i (read_of s start).recs
+begins_at_lem s start i = any_one_of i (read_of s start).recs

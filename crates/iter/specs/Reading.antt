@@ -39,7 +39,7 @@ abbrev pub rec_at : List ℕ → Scan → Record → Rec
 rec_at s c r = record { index = r.index; bytes = bytes_at s r; fillers = c.fillers; filler_bytes = c.filler_bytes }
 
 abbrev pub ended : ℕ → ℕ → Ending → Reading
-ended fillers fillerBytes e = record { recs = []; last = record { fillers = fillers; filler_bytes = fillerBytes; ending = e } }
+ended fillers filler_bytes e = record { recs = []; last = record { fillers = fillers; filler_bytes = filler_bytes; ending = e } }
 
 abbrev pub more : Rec → Reading → Reading
 more r rest = record { recs = r ∷ rest.recs; last = rest.last }
@@ -61,13 +61,13 @@ unfolding read_from
 read_of s at = read_from (suc (length s)) s at
 
 -- one of these records has this property
-abbrev pub Some : (Rec → Type 0) → List Rec → Type 0
-Some P [] = ⊥
-Some P (r ∷ rs) = P r ⊎ Some P rs
+abbrev pub OneOf : (Rec → Type 0) → List Rec → Type 0
+OneOf P [] = ⊥
+OneOf P (r ∷ rs) = P r ⊎ OneOf P rs
 
 -- A record begins at a position if steps from the start, each made from the next position of the one before, yield that index.
 abbrev pub Begins : List ℕ → ℕ → ℕ → Type 0
-Begins s start i = Some (λ r. r.index ≡ i) (read_of s start).recs
+Begins s start i = OneOf (λ r. r.index ≡ i) (read_of s start).recs
 
 -- whether it does; that the two say the same are the laws `begins` and `begins_at_lem` of proofs/Records.antt
 unfoldable pub begins_at : List ℕ → ℕ → ℕ → Bool

@@ -10,28 +10,28 @@ use Rattle.iter.specs.declared.Next.{Next}
 use Rattle.iter.specs.declared.Record.{Record}
 use Rattle.iter.specs.declared.Next.TheVariants as N
 use Rattle.iter.proofs.Reading.{step_fits}
-use Rattle.chain.specs.Finding.{Walk, seen}
+use Rattle.chain.specs.Finding.{Search, seen}
 use Rattle.chain.proofs.Goings.{Going, ends, onward, AtRecord, turned, pushed, found}
 use Rattle.jump.specs.declared.hop.Hop.{Hop}
 use Rattle.jump.specs.declared.hop.Hop.TheVariants as H
 use Rattle.jump.specs.Hop.{hop_of, land_of}
-use Rattle.jump.specs.Jump.{yielded_at, on_land, on_hop, on_step, jump_body, jump_by, jump_from, jump_of}
+use Rattle.jump.specs.Jump.{on_land, on_hop, on_step, jump_body, jump_by, jump_from, jump_of}
 use Rattle.jump.proofs.Hops.{over_after, lands}
 use Rattle.iter.proofs.Later.{unroll}
 
 -- the body calls later positions only
-module _ (s : List ℕ) (i : ℕ) (f g : ℕ → List ℕ → Walk) where
-  later_land : (r : Rec) (st : List ℕ) (end : ℕ) (l : Result ℕ Refusal) → l ≡ land_of s end → ((q : ℕ) → end < q → q ≤ length s → f q ≡ g q) → on_land r st l f ≡ on_land r st l g
-  later_land r st end (Ok after) e h = let y = lands s end e in ap (λ (x : List ℕ → Walk). seen r (x st)) (h after (omega arith) (omega arith))
-  later_land r st end (Err x) e h = refl
+module _ (s : List ℕ) (i : ℕ) (f g : ℕ → List ℕ → Search) where
+  later_land : (st : List ℕ) (end : ℕ) (l : Result Record Refusal) → l ≡ land_of s end → ((q : ℕ) → end < q → q ≤ length s → f q ≡ g q) → on_land s end st l f ≡ on_land s end st l g
+  later_land st end (Ok closer) e h = let y = lands s end e in ap (λ (x : List ℕ → Search). seen (rec_at s (scan_of s end) closer) (x st)) (h closer.next (omega arith) (omega arith))
+  later_land st end (Err x) e h = refl
 
   later_hop : (r : Rec) (at index next : ℕ) (bytes st : List ℕ) (hop : Result Hop Refusal) → hop ≡ hop_of i index next bytes (length st) → at < next → next ≤ length s →
       ((q : ℕ) → at < q → q ≤ length s → f q ≡ g q) → on_hop s r next st hop f ≡ on_hop s r next st hop g
-  later_hop r at index next bytes st (Ok H.Stay) e a b h = ap (λ (x : List ℕ → Walk). seen r (x st)) (h next a b)
-  later_hop r at index next bytes st (Ok H.Push) e a b h = ap (λ (x : List ℕ → Walk). seen r (x (r.index ∷ st))) (h next a b)
+  later_hop r at index next bytes st (Ok H.Stay) e a b h = ap (λ (x : List ℕ → Search). seen r (x st)) (h next a b)
+  later_hop r at index next bytes st (Ok H.Push) e a b h = ap (λ (x : List ℕ → Search). seen r (x (r.index ∷ st))) (h next a b)
   later_hop r at index next bytes st (Ok (H.Over end)) e a b h =
       let o : next ≤ end = over_after i index next bytes (length st) e in
-      ap (seen r) (later_land (yielded_at s end) st end (land_of s end) refl (λ q u v. h q (omega arith) v))
+      ap (seen r) (later_land st end (land_of s end) refl (λ q u v. h q (omega arith) v))
   later_hop r at index next bytes st (Ok H.Found) e a b h = refl
   later_hop r at index next bytes st (Err x) e a b h = refl
 
@@ -44,7 +44,7 @@ module _ (s : List ℕ) (i : ℕ) (f g : ℕ → List ℕ → Walk) where
       λ j st. later_hop (rec_at s (scan_of s at) it) at it.index it.next (bytes_at s it) st (hop_of i it.index it.next (bytes_at s it) (length st)) refl
       (omega (arith, y)) (omega (arith, y)) h j
 
-later_body : (s : List ℕ) (i at : ℕ) (f g : ℕ → List ℕ → Walk) → ((q : ℕ) → at < q → q ≤ length s → f q ≡ g q) → jump_body s i f at ≡ jump_body s i g at
+later_body : (s : List ℕ) (i at : ℕ) (f g : ℕ → List ℕ → Search) → ((q : ℕ) → at < q → q ≤ length s → f q ≡ g q) → jump_body s i f at ≡ jump_body s i g at
 unfolding jump_body
 later_body s i at f g h = later_step s i f g at (scan_of s at).step refl h
 
@@ -55,7 +55,7 @@ jump_unroll s i at = unroll (length s) (λ k q. jump_by k s i q) (jump_body s i)
 -- The search from a position, by what the step there says: no fuel is left in it.
 pub jump_by_lem : (s : List ℕ) (i at : ℕ) (st : List ℕ) (n : Result Next Refusal) → (scan_of s at).step ≡ n → jump_from s i at st ≡ on_step s i (scan_of s at) n (jump_from s i) st
 unfolding jump_body
-jump_by_lem s i at st n e = ap (λ (x : List ℕ → Walk). x st) (jump_unroll s i at) ∙ ap (λ (m : Result Next Refusal). on_step s i (scan_of s at) m (jump_from s i) st) e
+jump_by_lem s i at st n e = ap (λ (x : List ℕ → Search). x st) (jump_unroll s i at) ∙ ap (λ (m : Result Next Refusal). on_step s i (scan_of s at) m (jump_from s i) st) e
 
 -- the loop's invariant
 abbrev pub Jumping : List ℕ → ℕ → ℕ → List ℕ → ℕ → ℕ → Type 0
@@ -102,7 +102,7 @@ module _ (i : ℕ) {s : List ℕ} {start : ℕ} {chain : List ℕ} {at read : �
     at_found f = found y (left (ap Ok (sym f) ∙ e))
 
     module _ {end : ℕ} (f : h ≡ H.Over end) where
-      landed : {l : Result ℕ Refusal} → l ≡ land_of s end → jump_from s i at (reverse chain) ≡ seen r (on_land (yielded_at s end) (reverse chain) l (jump_from s i))
+      landed : {l : Result Record Refusal} → l ≡ land_of s end → jump_from s i at (reverse chain) ≡ seen r (on_land s end (reverse chain) l (jump_from s i))
       landed el = left (ap Ok (sym f) ∙ e) ∙ rw (sym el)
 
       pub at_miss : {x : Refusal} → Err x ≡ land_of s end → Err x ≡ jump_of s start i
@@ -110,13 +110,13 @@ module _ (i : ℕ) {s : List ℕ} {start : ℕ} {chain : List ℕ} {at read : �
       at_miss el = ends y.going (landed el)
 
       -- a jump goes on behind its opener and its closer, within the stream
-      pub over : {after : ℕ} → Ok after ≡ land_of s end → (it.next + 4 ≤ after) × (after ≤ length s)
+      pub over : {closer : Record} → Ok closer ≡ land_of s end → (it.next + 4 ≤ closer.next) × (closer.next ≤ length s)
       over el =
           let a : it.next ≤ end = over_after i it.index it.next lent d (ap Ok (sym f) ∙ e) in
           let l = lands s end el in
           (omega arith, omega arith)
 
-      pub going_over : {after : ℕ} → Ok after ≡ land_of s end → Jumping s start i chain after (read + 1 + 1)
-      going_over {after} el =
-          let l : it.next + 4 ≤ after = (over el).0 in
-          rw (add_assoc read 1 1) (onward y.going after 2 chain (omega (arith, y.fits)) (over el).1 (landed el) refl (omega arith))
+      pub going_over : {closer : Record} → Ok closer ≡ land_of s end → Jumping s start i chain closer.next (read + 1 + 1)
+      going_over {closer} el =
+          let l : it.next + 4 ≤ closer.next = (over el).0 in
+          rw (add_assoc read 1 1) (onward y.going closer.next 2 chain (omega (arith, y.fits)) (over el).1 (landed el) refl (omega arith))

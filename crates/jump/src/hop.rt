@@ -26,7 +26,7 @@ pub enum Hop {
 }
 
 /// The hop at an opener with these links. (The depth is all that it needs of the chain.)
-fn hop_open(links: Option<Links>, next: usize, i: usize, depth: usize) -> Result<Hop, Refusal>
+fn open_hop(links: Option<Links>, next: usize, i: usize, depth: usize) -> Result<Hop, Refusal>
     ensures { result ≡ open_hop links next i depth }
 {
     let links = links.ok_or(Refusal::UnusableLink)?;
@@ -57,27 +57,21 @@ pub fn hop_at(r: Record, rec: &[u8], i: usize, depth: usize) -> Result<Hop, Refu
         return Err(Refusal::NothingThere);
     }
     match constants::nesting_role(r.kind) {
-        Role::Opens => hop_open(links::links_of(rec), r.next, i, depth),
+        Role::Opens => open_hop(links::links_of(rec), r.next, i, depth),
         Role::Closes => Err(Refusal::UnusableLink),
         Role::Neither => Ok(Hop::Stay),
     }
 }
 
-/// The position behind the closer at an end field, which is a position.
+/// The closer at an end field, which is a position.
 #[tactic(auto, unfolding(crate::specs::Hop::land_of, iter::specs::Step::step_of))]
-pub fn land_at(s: &[u8], end: usize) -> Result<usize, Refusal>
+pub fn land_at(s: &[u8], end: usize) -> Result<Record, Refusal>
     ensures { result ≡ land_of s.now end }
 {
     match iter::step(s, end)? {
-        Next::End(_) => Err(Refusal::UnusableLink),
-        Next::Record(r) => {
-            if r.index != end {
-                return Err(Refusal::UnusableLink);
-            }
-            match constants::nesting_role(r.kind) {
-                Role::Closes => Ok(r.next),
-                Role::Opens | Role::Neither => Err(Refusal::UnusableLink),
-            }
-        }
+        Next::Record(r) if r.index == end && constants::nesting_role(r.kind) == Role::Closes => Ok(
+            r,
+        ),
+        _ => Err(Refusal::UnusableLink),
     }
 }

@@ -32,7 +32,7 @@ pub fn jump(s: &[u8], start: usize, i: usize) -> Result<Found, Refusal>
                     Hop::Stay => {}
                     Hop::Push => chain.push(r.index as u32),
                     Hop::Over(end) => {
-                        at = hop::land_at(s, end)?;
+                        at = hop::land_at(s, end)?.next;
                         read += 1;
                     }
                     Hop::Found => return Ok(Found { chain, count: read }),

@@ -1,6 +1,6 @@
 -- The links of a record that opens a scope: they stand at 2 and 6 wherever decode answers.
 -- Assumes nothing.
-use Rattle.std.proofs.Common.{ℕ, ◌≡◌, refl, sym, subst, ◌+◌, ◌≤◌, arith, Bool, true, false, cond, List, length, Option, None, Some, Ok, Err}
+use Rattle.std.proofs.Common.{ℕ, ◌≡◌, refl, sym, subst, ◌+◌, ◌≤◌, arith, Bool, true, false, cond, List, length, Option, None, Some, unwrap_or, Ok, Err}
 use lib.Dec.{ltb, leb, eqb}
 use borrow.Author.Tests.{leb-true, eqb-true, le-ltb}
 use Rattle.common.specs.Bytes.{le}
@@ -12,7 +12,7 @@ use Rattle.constants.specs.declared.Class.TheVariants.{Unknown, Procedure, Inlin
 use Rattle.constants.specs.declared.Role.TheVariants.{Opens}
 use Rattle.constants.proofs.Entries.{agree}
 use Rattle.constants.specs.Raw.{raw_kind, nesting_role_of}
-use Rattle.records.specs.Field.{index_of, or_zero32}
+use Rattle.records.specs.Field.{index_of}
 use Rattle.records.specs.declared.SymbolData.{SymbolData}
 use Rattle.code.specs.Procedure.{procedure}
 use Rattle.code.specs.Block.{block, separated_code}
@@ -53,14 +53,14 @@ module _ (s : List ℕ) where
   at_last to room fields = (room, fields)
 
   -- a parent field of 0 is none, and none is 0
-  parent_is : (x : ℕ) → or_zero32 (index_of x) ≡ x
+  parent_is : (x : ℕ) → unwrap_or (index_of x) 0 ≡ x
   parent_is x = by (eqb x 0) refl
     where
-      by : (b : Bool) → eqb x 0 ≡ b → or_zero32 (cond b None (Some x)) ≡ x
+      by : (b : Bool) → eqb x 0 ≡ b → unwrap_or (cond b None (Some x)) 0 ≡ x
       by true e = sym (eqb-true x 0 e)
       by false e = refl
 
-  optional : (d : SymbolData) (p e : ℕ) → LinkFields d (linked (or_zero32 (index_of p)) e) → LinkFields d (linked p e)
+  optional : (d : SymbolData) (p e : ℕ) → LinkFields d (linked (unwrap_or (index_of p) 0) e) → LinkFields d (linked p e)
   optional d p e l = subst (λ (x : ℕ). LinkFields d (linked x e)) (parent_is p) l
 
   ruleset reading = (field, optional_field, behind, at_last, optional, of_procedure, of_inline_site, of_block, of_thunk, of_separated_code, arith)

@@ -1,10 +1,9 @@
 -- What the check and the finders look at in an opener (document 01, "Check", "Jump finder", "Climb finder"): its links.
-use Rattle.std.specs.Prelude.{ℕ, ◌≡◌, List, Option, None, Some, Ok, Err}
+use Rattle.std.specs.Prelude.{ℕ, ◌≡◌, List, Option, None, Some, unwrap_or, Ok, Err}
 use Rattle.common.specs.Bytes.{le}
 use Rattle.common.specs.Reader.{Read}
 use Rattle.constants.specs.Raw.{nesting_role_of}
 use Rattle.constants.specs.declared.Role.TheVariants.{Opens}
-use Rattle.records.specs.Field.{or_zero32}
 use Rattle.records.specs.declared.SymbolData.{SymbolData}
 use Rattle.records.specs.declared.SymbolData.TheVariants as D
 use Rattle.records.specs.declared.ProcedureSymbol.{ProcedureSymbol}
@@ -29,10 +28,10 @@ links_of bytes = links_by bytes (decode bytes)
 
 -- The parent and end fields of the typed records that open a scope. A parent that is none is 0.
 pub data LinkFields : SymbolData → Option Links → Type 0 where
-  of_procedure : (x : ProcedureSymbol) → LinkFields (D.Procedure x) (linked (or_zero32 x.parent) x.end)
-  of_inline_site : (x : InlineSiteSymbol) → LinkFields (D.InlineSite x) (linked (or_zero32 x.parent) x.end)
+  of_procedure : (x : ProcedureSymbol) → LinkFields (D.Procedure x) (linked (unwrap_or x.parent 0) x.end)
+  of_inline_site : (x : InlineSiteSymbol) → LinkFields (D.InlineSite x) (linked (unwrap_or x.parent 0) x.end)
   of_block : (x : BlockSymbol) → LinkFields (D.Block x) (linked x.parent x.end)
-  of_thunk : (x : ThunkSymbol) → LinkFields (D.Thunk x) (linked (or_zero32 x.parent) x.end)
+  of_thunk : (x : ThunkSymbol) → LinkFields (D.Thunk x) (linked (unwrap_or x.parent 0) x.end)
   of_separated_code : (x : SeparatedCodeSymbol) → LinkFields (D.SeparatedCode x) (linked x.parent x.end)
 
 -- The links of an opener are the fields of the record that decode makes of it. (Proved: `links_are_fields`, proofs/Openers.antt.)

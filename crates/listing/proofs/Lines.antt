@@ -12,9 +12,9 @@ use Rattle.names.specs.declared.Part.{Part}
 use Rattle.symbol.specs.Name.{name_of}
 use Rattle.listing.specs.Listing.{shown_byte, name_shown, line_of}
 
-pub line_length : (index : ℕ) (bytes : List ℕ) → length (line_of index bytes) ≡ length (decimal index) + 7 + length (name_shown bytes (name_of bytes))
+pub line_length : (index kind : ℕ) (bytes : List ℕ) → length (line_of index kind bytes) ≡ length (decimal index) + 7 + length (name_shown bytes (name_of bytes))
 unfolding line_of
-line_length index bytes = simp length-append (omega arith)
+line_length index kind bytes = simp length-append (omega arith)
 
 -- a number of 64 bits has 20 digits at most
 pub decimal_most : {n : ℕ} → n < 2 ^ 64 → length (decimal n) ≤ 20
@@ -32,5 +32,5 @@ name_most bytes (Ok None) = omega arith
 name_most bytes (Ok (Some p)) = omega (arith, length-map (bytes_of bytes p) shown_byte, part_most bytes p)
 name_most bytes (Err e) = omega (arith, number_most e)
 
-pub line_most : (index : ℕ) (bytes : List ℕ) → index < 2 ^ 64 → length (line_of index bytes) ≤ 48 + length bytes
-line_most index bytes fits = omega (arith, line_length index bytes, decimal_most fits, name_most bytes (name_of bytes))
+pub line_most : (index kind : ℕ) (bytes : List ℕ) → index < 2 ^ 64 → length (line_of index kind bytes) ≤ 48 + length bytes
+line_most index kind bytes fits = omega (arith, line_length index kind bytes, decimal_most fits, name_most bytes (name_of bytes))

@@ -10,7 +10,7 @@ use Rattle.iter.specs.declared.Next.{Next}
 use Rattle.iter.specs.declared.Record.{Record}
 use Rattle.iter.specs.declared.Next.TheVariants as N
 use Rattle.iter.proofs.Reading.{step_fits, read_by}
-use Rattle.iter.proofs.Steps.{record_of, next_within, lent_bytes}
+use Rattle.iter.proofs.Steps.{record_of, next_within, lent_kind, lent_bytes}
 use Rattle.listing.specs.Listing.{line_of, refused_line, lines_of, text_of, listing_of}
 use Rattle.listing.specs.Puts.{Puts, Writes}
 use Rattle.listing.specs.declared.text.Text.{Text}
@@ -54,22 +54,22 @@ module _ {s : List ℕ} {before now : Text} {at : ℕ} (l : Listing s before now
 
   module _ {n : Next} {it : Record} (e : Ok n ≡ step_of s at) (f : n ≡ N.Record it) where
     -- the line of a record has room behind the lines before it
-    pub line_room : now.len + length (line_of it.index (take (it.next - it.start) (drop it.start s))) + 52 ≤ 13 * it.next
+    pub line_room : now.len + length (line_of it.index it.kind (take (it.next - it.start) (drop it.start s))) + 52 ≤ 13 * it.next
     line_room =
         let most : length (take (it.next - it.start) (drop it.start s)) ≤ it.next - it.start = simp length-take (omega arith) in
         let y = step_fits s at it (record_of s at e f) in
-        omega (arith, line_most it.index (take (it.next - it.start) (drop it.start s)) (omega arith), l.room)
+        omega (arith, line_most it.index it.kind (take (it.next - it.start) (drop it.start s)) (omega arith), l.room)
 
     pub after_line :
-        {now' : Text} → length s ≤ 65536 → Writes (line_of it.index (take (it.next - it.start) (drop it.start s))) now now' → Listing s before now' it.next
+        {now' : Text} → length s ≤ 65536 → Writes (line_of it.index it.kind (take (it.next - it.start) (drop it.start s))) now now' → Listing s before now' it.next
     unfolding lines_of
     after_line small w =
         let r = read_by s at (Ok (N.Record it)) (record_of s at e f) in
         record {
-          done = l.done ++ line_of it.index (take (it.next - it.start) (drop it.start s));
+          done = l.done ++ line_of it.index it.kind (take (it.next - it.start) (drop it.start s));
           empty = l.empty;
           written = then_lem l.written w;
-          goes_on = rw (append_assoc, lent_bytes s at e f) (rw r at l.goes_on);
+          goes_on = rw (append_assoc, lent_kind s at e f, lent_bytes s at e f) (rw r at l.goes_on);
           ending = rw r at l.ending;
           room = omega (arith, w.puts.ends, line_room);
           within = omega (arith, next_within s at e f);

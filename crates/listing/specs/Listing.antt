@@ -27,8 +27,8 @@ name_shown bytes (Ok (Some p)) = map shown_byte (bytes_of bytes p)
 name_shown bytes (Err e) = 0x21 ∷ decimal (refusal_number e)
 
 -- one space between: index, four lower-case hexadecimal kind digits, name; each line ends in a line feed
-unfoldable pub line_of : ℕ → List ℕ → List ℕ
-line_of index bytes = decimal index ++ space ++ last_digits 16 4 (raw_kind bytes) ++ space ++ name_shown bytes (name_of bytes) ++ newline
+unfoldable pub line_of : ℕ → ℕ → List ℕ → List ℕ
+line_of index kind bytes = decimal index ++ space ++ last_digits 16 4 kind ++ space ++ name_shown bytes (name_of bytes) ++ newline
 
 -- `refused`, number, position
 unfoldable pub refused_line : Refusal → List ℕ
@@ -38,7 +38,7 @@ refused_line e =
 -- a line for each record
 unfoldable pub lines_of : List Rec → List ℕ
 lines_of [] = []
-lines_of (r ∷ rs) = line_of r.index r.bytes ++ lines_of rs
+lines_of (r ∷ rs) = line_of r.index (raw_kind r.bytes) r.bytes ++ lines_of rs
 
 -- a refused step ends it
 abbrev pub last_line : Ending → List ℕ

@@ -14,7 +14,7 @@ ghost use Rattle.listing.specs.Listing.{name_shown, line_of, refused_line, lines
 ghost use Rattle.listing.specs.Puts.{Puts, HasRoom, Writes};
 
 use common::Refusal;
-use iter::Next;
+use iter::{Next, Record};
 use text::Text;
 
 /// The longest stream that is listed.
@@ -45,21 +45,22 @@ fn put_name(text: &mut Text, rec: &[u8])
     }
 }
 
-/// Puts a line: the index, four hexadecimal digits of the kind, and the name.
+/// Puts the line of a record, whose bytes are lent with it: the index, four hexadecimal digits of the kind, and the name.
 #[tactic(auto, unfolding(crate::specs::Listing::line_of))]
-fn put_line(text: &mut Text, index: usize, rec: &[u8])
-    requires { HasRoom (line_of index rec.now) text.old }
-    ensures { Writes (line_of index rec.now) text.old text.new }
+fn put_line(text: &mut Text, r: Record, rec: &[u8])
+    requires { HasRoom (line_of r.index r.kind rec.now) text.old }
+    ensures { Writes (line_of r.index r.kind rec.now) text.old text.new }
 {
-    text.put_decimal(index);
+    text.put_decimal(r.index);
     text.put(b" ");
-    text.put_kind(constants::kind::raw_kind(rec));
+    text.put_kind(r.kind);
     text.put(b" ");
     put_name(text, rec);
     text.put(b"\n");
 }
 
-/// Puts the line that ends a listing: `refused`, the number and the position.
+/// Puts the line that ends a listing: `refused`, the number and the position. (It is 50 bytes long at the most: a word, two spaces, two
+/// numbers of 20 digits and a line feed.)
 #[tactic(auto, using(crate::proofs::Lines::decimal_most))]
 fn put_refused(text: &mut Text, refusal: Refusal)
     requires { text.old.len + 50 ≤ TEXT_ROOM }
@@ -87,7 +88,7 @@ fn put_lines(text: &mut Text, s: &[u8]) -> Result<(), Refusal>
         match iter::step(s, at)? {
             Next::End(_) => return Ok(()),
             Next::Record(r) => {
-                put_line(text, r.index, &s[r.start..r.next]);
+                put_line(text, r, &s[r.start..r.next]);
                 at = r.next;
             }
         }

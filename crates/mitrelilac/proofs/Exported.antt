@@ -17,13 +17,12 @@ use Rattle.walk.specs.Walk.{walk_from, walk_of}
 use Rattle.walk.proofs.Depth.{walk_depth}
 use Rattle.jump.specs.Jump.{jump_of}
 use Rattle.climb.specs.Climb.{climb_of}
-use Rattle.agreement.specs.Agreement.{enclosing}
-use Rattle.agreement.specs.Agreement as A
+use Rattle.agreement.specs.Agreement.{enclosing, BothAnswer, BothRefuse, ClimbsThem}
 use Rattle.agreement.proofs.Agreement.{condition3}
 use Rattle.words.specs.Written.{written}
 use Rattle.reply.specs.Reply.{Replied}
 use Rattle.reply.specs.Replies.{check_reply, finding_reply, chain_words}
-use Rattle.mitrelilac.specs.Exported.{Call, call, SumsUp, count, scopes, BothAnswer, BothRefuse, ClimbsThem, Condition3}
+use Rattle.mitrelilac.specs.Exported.{Call, call, SumsUp, count, chain_told, CallsAnswer, CallsRefuse, ClimbCallFinds, CallsMeetCondition3}
 
 -- the check returns 0 only where it passes
 passed : (r : Result Counts Refusal) {returned : ℕ} {before after : List ℕ} → Replied (check_reply r) returned before after →
@@ -45,7 +44,7 @@ full chain h = simp (length-append, length-replicate) (omega arith)
 record Answered (f : Found) (c : Call) : Type 0 where
   returned_0 : c.returned ≡ 0
   counts : count c ≡ f.count
-  lists : scopes c ≡ chain_words f.chain
+  lists : chain_told c ≡ chain_words f.chain
 
 answered : (r : Result Found Refusal) (f : Found) {returned : ℕ} {before after : List ℕ} → r ≡ Ok f → length f.chain ≤ 64 →
     Replied (finding_reply r) returned before after → Answered f (call returned after)
@@ -78,8 +77,8 @@ module _ (s : List ℕ) (start i : ℕ) {checked walked jumped climbed : ℕ} {c
   few : length (enclosing s start i) ≤ 64
   few = omega (arith, length-reverse (result_unwrap_or (walk_from i (read_of s start) []).out []), walk_depth s start i)
 
-  both_answer : A.BothAnswer (enclosing s start i) (walk_of s start i) (jump_of s start i) →
-      BothAnswer (enclosing s start i) (call walked w') (call jumped j')
+  both_answer : BothAnswer (enclosing s start i) (walk_of s start i) (jump_of s start i) →
+      CallsAnswer (enclosing s start i) (call walked w') (call jumped j')
   both_answer b =
       let x = answered _ _ b.walking_finds few walk in
       let y = answered _ _ b.jumping_finds few jump in
@@ -91,18 +90,18 @@ module _ (s : List ℕ) (start i : ℕ) {checked walked jumped climbed : ℕ} {c
         jumping_reads_no_more = rw (x.counts, y.counts) b.jumping_reads_no_more;
       }
 
-  both_refuse : A.BothRefuse (walk_of s start i) (jump_of s start i) → BothRefuse (call walked w') (call jumped j')
+  both_refuse : BothRefuse (walk_of s start i) (jump_of s start i) → CallsRefuse (call walked w') (call jumped j')
   both_refuse b =
       let x = refused_14 _ b.walking_refuses walk in
       let y = refused_14 _ b.jumping_refuses jump in
       record { walking_refuses = x.0; jumping_refuses = y.0; walking_at_0 = x.1; jumping_at_0 = y.1 }
 
-  climbs_them : A.ClimbsThem (enclosing s start i) (climb_of s i) → ClimbsThem (enclosing s start i) (call climbed u')
+  climbs_them : ClimbsThem (enclosing s start i) (climb_of s i) → ClimbCallFinds (enclosing s start i) (call climbed u')
   climbs_them b =
       let x = answered _ _ b (rw length-reverse few) climb in
       record { climbing_answers = x.returned_0; climbing_finds = x.lists; as_many_links = x.counts }
 
-  pub exported_condition3 : Condition3 s start i checked (call walked w') (call jumped j') (call climbed u')
+  pub exported_condition3 : CallsMeetCondition3 s start i checked (call walked w') (call jumped j') (call climbed u')
   exported_condition3 z =
       let p = passed _ check z in
       let a = condition3 s start i p.0 p.1 in

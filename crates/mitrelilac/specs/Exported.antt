@@ -23,37 +23,37 @@ SumsUp s start check = check.returned ≡ 0 → get_or check.out 1 0 + get_or ch
 abbrev pub count : Call → ℕ
 count c = get_or c.out 0 0
 
-abbrev pub scopes : Call → List ℕ
-scopes c = take 65 (drop 1 c.out)
+abbrev pub chain_told : Call → List ℕ
+chain_told c = take 65 (drop 1 c.out)
 
 -- Jumping and walking both answer, with the same enclosing scopes in the same order, and jumping returns no greater number of records
 -- read than walking.
-pub record BothAnswer (enclosed : List ℕ) (walk jump : Call) : Type 0 where
+pub record CallsAnswer (enclosed : List ℕ) (walk jump : Call) : Type 0 where
   pub walking_answers : walk.returned ≡ 0
   pub jumping_answers : jump.returned ≡ 0
-  pub walking_finds : scopes walk ≡ chain_words enclosed
-  pub jumping_finds : scopes jump ≡ chain_words enclosed
+  pub walking_finds : chain_told walk ≡ chain_words enclosed
+  pub jumping_finds : chain_told jump ≡ chain_words enclosed
   pub jumping_reads_no_more : count jump ≤ count walk
 
 -- Both refuse, alike, with 14: position 0 and detail 0.
-pub record BothRefuse (walk jump : Call) : Type 0 where
+pub record CallsRefuse (walk jump : Call) : Type 0 where
   pub walking_refuses : walk.returned ≡ 14
   pub jumping_refuses : jump.returned ≡ 14
   pub walking_at_0 : take 2 walk.out ≡ 0 ∷ 0 ∷ []
   pub jumping_at_0 : take 2 jump.out ≡ 0 ∷ 0 ∷ []
 
 -- The parent fields, climbed, give that list reversed, without a refusal and with as many links as the list has scopes.
-pub record ClimbsThem (enclosed : List ℕ) (climb : Call) : Type 0 where
+pub record ClimbCallFinds (enclosed : List ℕ) (climb : Call) : Type 0 where
   pub climbing_answers : climb.returned ≡ 0
-  pub climbing_finds : scopes climb ≡ chain_words (reverse enclosed)
+  pub climbing_finds : chain_told climb ≡ chain_words (reverse enclosed)
   pub as_many_links : count climb ≡ length enclosed
 
 -- Condition 3: where the check returned 0, the three finders agree. (What it is that a record or an opener begins, and what the enclosing
 -- scopes are, stands in crate agreement.)
-pub record Agreement (s : List ℕ) (start i : ℕ) (walk jump climb : Call) : Type 0 where
-  pub if_a_record_begins : Begins s start i → BothAnswer (enclosing s start i) walk jump
-  pub if_none_begins : (Begins s start i → ⊥) → BothRefuse walk jump
-  pub if_an_opener_begins : OpenerBegins s start i → ClimbsThem (enclosing s start i) climb
+pub record CallsAgree (s : List ℕ) (start i : ℕ) (walk jump climb : Call) : Type 0 where
+  pub if_a_record_begins : Begins s start i → CallsAnswer (enclosing s start i) walk jump
+  pub if_none_begins : (Begins s start i → ⊥) → CallsRefuse walk jump
+  pub if_an_opener_begins : OpenerBegins s start i → ClimbCallFinds (enclosing s start i) climb
 
-abbrev pub Condition3 : List ℕ → ℕ → ℕ → ℕ → Call → Call → Call → Type 0
-Condition3 s start i checked walk jump climb = checked ≡ 0 → Agreement s start i walk jump climb
+abbrev pub CallsMeetCondition3 : List ℕ → ℕ → ℕ → ℕ → Call → Call → Call → Type 0
+CallsMeetCondition3 s start i checked walk jump climb = checked ≡ 0 → CallsAgree s start i walk jump climb

@@ -7,7 +7,7 @@ ghost use Rattle.jump.specs.Jump.{jump_of};
 ghost use Rattle.climb.specs.Climb.{climb_of};
 ghost use Rattle.reply.specs.Reply.{Replied};
 ghost use Rattle.reply.specs.Replies.{check_reply, finding_reply};
-ghost use Rattle.mitrelilac.specs.Exported.{call, Condition3};
+ghost use Rattle.mitrelilac.specs.Exported.{call, CallsMeetCondition3};
 
 /// The numbers that the four calls return.
 #[derive(Clone, Copy, Debug, PartialEq, Eq)]
@@ -39,7 +39,7 @@ pub fn four_calls(
     ensures walks { Replied (finding_reply (walk_of stream.now start i)) result.walk walked.old walked.new }
     ensures jumps { Replied (finding_reply (jump_of stream.now start i)) result.jump jumped.old jumped.new }
     ensures climbs { Replied (finding_reply (climb_of stream.now i)) result.climb climbed.old climbed.new }
-    ensures condition3 { Condition3 stream.now start i result.check (call result.walk walked.new) (call result.jump jumped.new) (call result.climb climbed.new) }
+    ensures condition3 { CallsMeetCondition3 stream.now start i result.check (call result.walk walked.new) (call result.jump jumped.new) (call result.climb climbed.new) }
 {
     let check = super::mitrelilac_check(stream, start, checked);
     let walk = super::mitrelilac_walk(stream, start, i, walked);

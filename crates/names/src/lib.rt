@@ -3,7 +3,7 @@
 // A name is kept as where it starts and how long it is; `as_bytes` gives the bytes themselves, out of the lent slice.
 #![tactic(auto, unfolding(crate::specs::Name::bytes, crate::specs::Name::cstring, crate::specs::Name::symbol_name, crate::specs::Name::bytes_of))]
 
-ghost use Rattle.std.specs.Prelude.{◌≡◌};
+ghost use Rattle.std.specs.Prelude.{◌≡◌, OnErr};
 ghost use Rattle.common.specs.Buffer.{Reads};
 ghost use Rattle.names.specs.Name.{run, bytes, cstring, pascal, rest, symbol_name};
 ghost use Rattle.names.specs.Lent.{IsPart};
@@ -31,10 +31,11 @@ fn before_zero(s: &[u8]) -> usize
     memchr::memchr(0, s).unwrap_or(s.len())
 }
 
-/// Reads bytes up to a zero, and the zero.
+/// Reads bytes up to a zero, and the zero, or moves nothing.
 #[inline(always)]
 pub fn parse_cstring(buf: &mut ParseBuffer) -> Result<Part, Refusal>
-    ensures { Reads cstring buf.old result buf.new }
+    ensures reads { Reads cstring buf.old result buf.new }
+    ensures stays { OnErr result (buf.new.pos ≡ buf.old.pos) }
 {
     let start = buf.pos;
     let rest = buf.rest();
@@ -46,9 +47,10 @@ pub fn parse_cstring(buf: &mut ParseBuffer) -> Result<Part, Refusal>
     Ok(Part { start, len })
 }
 
-/// Reads n bytes.
+/// Reads n bytes, or moves nothing.
 fn take(buf: &mut ParseBuffer, n: usize) -> Result<Part, Refusal>
-    ensures { Reads (bytes n) buf.old result buf.new }
+    ensures reads { Reads (bytes n) buf.old result buf.new }
+    ensures stays { OnErr result (buf.new.pos ≡ buf.old.pos) }
 {
     let start = buf.pos;
     if !buf.has_room(n) {

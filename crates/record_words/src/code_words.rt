@@ -9,7 +9,6 @@ use super::field::{procedure_bits, separated_bits, thunk_kind};
 use constants::Class;
 use records::{
     BlockSymbol, InlineSiteSymbol, LabelSymbol, ProcedureSymbol, SeparatedCodeSymbol, ThunkSymbol,
-    TrampolineSymbol,
 };
 
 pub fn procedure(x: &ProcedureSymbol, consumed: u64) -> [u64; 16]
@@ -32,21 +31,6 @@ pub fn procedure(x: &ProcedureSymbol, consumed: u64) -> [u64; 16]
         procedure_bits(x.flags),
         x.name.start as u64,
         x.name.len as u64,
-    ]
-}
-
-pub fn trampoline(x: &TrampolineSymbol, consumed: u64) -> [u64; 8]
-    ensures { result ≡ record_words (SymbolData.Trampoline x.now) consumed }
-{
-    [
-        Class::Trampoline as u64,
-        consumed,
-        x.tramp_type as u64,
-        x.size as u64,
-        x.thunk.offset as u64,
-        x.thunk.section as u64,
-        x.target.offset as u64,
-        x.target.section as u64,
     ]
 }
 

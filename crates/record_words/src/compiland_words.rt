@@ -9,7 +9,8 @@ use super::field::{NO_PART, compile_bits, export_bits, public_bits};
 use constants::Class;
 use records::{
     AnnotationReferenceSymbol, BuildInfoSymbol, CompileFlagsSymbol, DataReferenceSymbol,
-    ExportSymbol, ObjNameSymbol, ProcedureReferenceSymbol, PublicSymbol, UsingNamespaceSymbol,
+    ExportSymbol, ObjNameSymbol, ProcedureReferenceSymbol, PublicSymbol, TrampolineSymbol,
+    UsingNamespaceSymbol,
 };
 
 pub fn obj_name(x: &ObjNameSymbol, consumed: u64) -> [u64; 5]
@@ -123,6 +124,21 @@ pub fn annotation_reference(x: &AnnotationReferenceSymbol, consumed: u64) -> [u6
         x.module.unwrap_or(0) as u64,
         x.name.start as u64,
         x.name.len as u64,
+    ]
+}
+
+pub fn trampoline(x: &TrampolineSymbol, consumed: u64) -> [u64; 8]
+    ensures { result ≡ record_words (SymbolData.Trampoline x.now) consumed }
+{
+    [
+        Class::Trampoline as u64,
+        consumed,
+        x.tramp_type as u64,
+        x.size as u64,
+        x.thunk.offset as u64,
+        x.thunk.section as u64,
+        x.target.offset as u64,
+        x.target.section as u64,
     ]
 }
 

@@ -1,7 +1,7 @@
 // A decoded record as words, in places that the caller lends: the number of its class, the bytes consumed, and its fields.
 //
 // `field` has the fields that are no plain numbers; the others have the words of the records, in the order of the header's table and in
-// the rooms of their decoders. (A module may not have a crate's name in a program that reaches both.)
+// the rooms of their decoders, register lists with the data. (A module may not have a crate's name in a program that reaches both.)
 #![tactic(auto)]
 
 pub mod code_words;
@@ -13,10 +13,10 @@ ghost use Rattle.std.specs.Prelude.{◌≡◌};
 ghost use Rattle.words.specs.Written.{written};
 ghost use Rattle.record_words.specs.Record.{record_words};
 
-use code_words::{block, inline_site, label, procedure, separated_code, thunk, trampoline};
+use code_words::{block, inline_site, label, procedure, separated_code, thunk};
 use compiland_words::{
     annotation_reference, build_info, compile_flags, data_reference, export_symbol, obj_name,
-    procedure_reference, public_symbol, using_namespace,
+    procedure_reference, public_symbol, trampoline, using_namespace,
 };
 use constants::Class;
 use data_words::{

@@ -14,11 +14,6 @@ index = do
   x ← u32
   done (index_of x)
 
--- parents and nexts of 0 mean none; the way back, for every number that may be missing
-abbrev pub or_zero32 : Option ℕ → ℕ
-or_zero32 None = 0
-or_zero32 (Some x) = x
-
 -- module u16 (0 none, else less one)
 abbrev pub module_of : ℕ → Option ℕ
 module_of x = cond (eqb x 0) None (Some (x - 1))

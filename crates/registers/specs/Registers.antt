@@ -14,14 +14,14 @@ abbrev pub register_count : ℕ → Reader ℕ
 register_count kind = cond (long_list kind) u16 u8
 
 -- where reading stands; nothing is read
-abbrev pub position : Reader ℕ
-position s at = Ok (at, at)
+abbrev pub here : Reader ℕ
+here s at = Ok (at, at)
 
 -- the record keeps where the entries start, and all of them have to be read
 abbrev pub multi_register_variable : ℕ → Reader SymbolData
 multi_register_variable kind = do
   type ← u32
   count ← register_count kind
-  first ← position
+  first ← here
   _ ← skip kind count
   done (MultiRegisterVariable (record { type_index = type; count = count; first = first }))

@@ -1,5 +1,5 @@
 // Our answers in words, as the oracle writes them: the number of the refusal, or 0, and what was written to the lent words. Records,
-// streams and their scopes are asked through the functions that C calls.
+// streams and their scopes are asked through the functions of crate mitrelilac, which C gets under the same names.
 use common::Refusal;
 use common::buffer::ParseBuffer;
 use constants::class_number;

@@ -6,13 +6,13 @@ use Rattle.std.specs.Result.{result_unwrap_or}
 use Rattle.common.specs.declared.Refusal.{Refusal}
 use Rattle.constants.specs.Raw.{raw_kind}
 use Rattle.iter.specs.Reading.{Rec, Ending, ends, refuses, read_of}
-use Rattle.chain.specs.Finding.{Walk}
+use Rattle.chain.specs.Finding.{Search}
 use Rattle.walk.specs.declared.Turn.{Turn}
 use Rattle.walk.specs.declared.Turn.TheVariants as T
 use Rattle.walk.specs.Walk.{turn_of, on_turn, walk_end, walk_on, walk_from}
 use Rattle.walk.proofs.Walks.{push_room}
 
-abbrev Shallow : Walk → Type 0
+abbrev Shallow : Search → Type 0
 Shallow w = length (result_unwrap_or w.out []) ≤ 64
 
 length_tail : (st : List ℕ) → length (tail st) ≤ length st

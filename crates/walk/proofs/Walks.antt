@@ -17,7 +17,7 @@ use Rattle.iter.specs.declared.Record.{Record}
 use Rattle.iter.specs.declared.Next.TheVariants as N
 use Rattle.iter.proofs.Reading.{read_by}
 use Rattle.iter.proofs.Records.{kind_of}
-use Rattle.chain.specs.Finding.{Walk, refused_with}
+use Rattle.chain.specs.Finding.{Search, refused_with}
 use Rattle.chain.proofs.Goings.{Going, ends, AtRecord, turned, pushed, found}
 use Rattle.walk.specs.declared.Turn.{Turn}
 use Rattle.walk.specs.declared.Turn.TheVariants as T
@@ -38,14 +38,14 @@ unfolding turn_of
 turn_role kind n l q d = grind (arith, common_steps)
 
 -- the walk, by what its first step says; `on` is the walk from a later position
-abbrev pub on_step : List ℕ → ℕ → Scan → Result Next Refusal → (ℕ → List ℕ → Walk) → List ℕ → Walk
+abbrev pub on_step : List ℕ → ℕ → Scan → Result Next Refusal → (ℕ → List ℕ → Search) → List ℕ → Search
 on_step s i c (Err e) on st = refused_with e
 on_step s i c (Ok (N.End p)) on st = refused_with NothingThere
 on_step s i c (Ok (N.Record it)) on st =
     on_turn (rec_at s c it) st (turn_of i it.index (raw_kind (bytes_at s it)) (length st)) (on it.next)
 
 -- the walk from a position, with a stack
-abbrev pub walk_at : List ℕ → ℕ → ℕ → List ℕ → Walk
+abbrev pub walk_at : List ℕ → ℕ → ℕ → List ℕ → Search
 walk_at s i at st = walk_from i (read_of s at) st
 
 pub walk_by : (s : List ℕ) (i at : ℕ) (st : List ℕ) (n : Result Next Refusal) → (scan_of s at).step ≡ n → walk_at s i at st ≡ on_step s i (scan_of s at) n (walk_at s i) st

@@ -1,3 +1,4 @@
+-- The verdict and the counts from the start are those from here; the measure is what is left of the stream.
 use Rattle.std.proofs.Common.{◌-◌, length}
 use Rattle.check_nesting.proofs.Checks.{Checking}
 use Rattle.check_nesting.proofs.check.Given as goal

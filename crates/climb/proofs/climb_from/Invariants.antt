@@ -1,3 +1,4 @@
+-- The climb from the first opener is that from here; the measure is the room that the chain has left.
 use Rattle.std.proofs.Common.{◌-◌, length}
 use Rattle.climb.proofs.Climbs.{Climbing}
 use Rattle.climb.proofs.climb_from.Given as goal

@@ -1,3 +1,4 @@
+-- The search from the start is that from here; the measure is what is left of the stream.
 use Rattle.std.proofs.Common.{◌-◌, length}
 use Rattle.jump.proofs.Jumps.{Jumping}
 use Rattle.jump.proofs.jump.Given as goal

@@ -6,7 +6,7 @@ use Rattle.listing.proofs.Writing.{then_lem}
 use Rattle.listing.proofs.put_line.Goals as goal
 
 pub put-requires-3 : goal.put-requires-3
-put-requires-3 c = omega (arith, line_length c.args.index c.args.rec.now)
+put-requires-3 c = omega (arith, line_length c.args.r.index c.args.r.kind c.args.rec.now)
 
 pub returns : goal.returns
 unfolding line_of
@@ -15,4 +15,4 @@ returns c =
     let three = then_lem two c.put_kind.ensures in
     let four = then_lem three c.put-2.ensures in
     let five = then_lem four c.put_name.ensures in
-    rw (← c.raw_kind.ensures) (then_lem five c.put-3.ensures)
+    then_lem five c.put-3.ensures
