@@ -27,19 +27,19 @@ use Rattle.agreement.proofs.Agree.{Order, less, same, more, order, Agree, both, 
 use Rattle.agreement.proofs.Parents.{opener-found, Up, top, over, up_later, up_out, climb_opener}
 
 -- of records that stand one behind the other from p on, one of index i lies at p or later
-some_from : (P : Rec → Type 0) (i : ℕ) → ((r : Rec) → P r → r.index ≡ i) → (p : ℕ) (rs : List Rec) → Rising p rs → OneOf P rs → p ≤ i
-some_from P i at p [] ri b = absurd b
-some_from P i at p (r ∷ rs) ri (inl e) = let l : p ≤ r.index = ri.0 in let f : r.index ≡ i = at r e in omega arith
-some_from P i at p (r ∷ rs) ri (inr b) =
+one_from : (P : Rec → Type 0) (i : ℕ) → ((r : Rec) → P r → r.index ≡ i) → (p : ℕ) (rs : List Rec) → Rising p rs → OneOf P rs → p ≤ i
+one_from P i at p [] ri b = absurd b
+one_from P i at p (r ∷ rs) ri (inl e) = let l : p ≤ r.index = ri.0 in let f : r.index ≡ i = at r e in omega arith
+one_from P i at p (r ∷ rs) ri (inr b) =
     let l : p ≤ r.index = ri.0 in
-    let m = some_from P i at (r.index + 2 + length r.bytes) rs ri.1 b in
+    let m = one_from P i at (r.index + 2 + length r.bytes) rs ri.1 b in
     omega arith
 
 -- an opener that begins is a record that begins
-some_of : (P Q : Rec → Type 0) → ((r : Rec) → P r → Q r) → (rs : List Rec) → OneOf P rs → OneOf Q rs
-some_of P Q f [] b = absurd b
-some_of P Q f (r ∷ rs) (inl x) = inl (f r x)
-some_of P Q f (r ∷ rs) (inr b) = inr (some_of P Q f rs b)
+one_of : (P Q : Rec → Type 0) → ((r : Rec) → P r → Q r) → (rs : List Rec) → OneOf P rs → OneOf Q rs
+one_of P Q f [] b = absurd b
+one_of P Q f (r ∷ rs) (inl x) = inl (f r x)
+one_of P Q f (r ∷ rs) (inr b) = inr (one_of P Q f rs b)
 
 module _ (s : List ℕ) (P : Rec → Type 0) where
   -- one of the records that steps from p yield has the property: none does at the end, and else the first one or a later one
@@ -93,7 +93,7 @@ module _ (s : List ℕ) (i : ℕ) where
     later : (P : Rec → Type 0) → ((r : Rec) → P r → r.index ≡ i) → i ≤ it.index → OneOf P (read_of s it.next).recs → ⊥
     later P at l b =
         let y = step_fits s p it h in
-        let f : it.next ≤ i = some_from P i at it.next (read_of s it.next).recs (rising s it.next) b in
+        let f : it.next ≤ i = one_from P i at it.next (read_of s it.next).recs (rising s it.next) b in
         absurd (omega arith)
 
     meets : (it.index < i → Met p st) → (it.index ≡ i → nesting_role_of (bytes_at s it) ≡ Opens → Climbs (indexes st)) → Met p st
@@ -172,7 +172,7 @@ module _ (s : List ℕ) (start i : ℕ) where
       record {
         if_a_record_begins = λ d. absurd (x d);
         if_none_begins = λ y. rw (a, b) (record { walking_refuses = refl; jumping_refuses = refl });
-        if_an_opener_begins = λ o. absurd (x (some_of (IsOpener s i) (Is s i) (λ r y. y.0) (read_of s start).recs o));
+        if_an_opener_begins = λ o. absurd (x (one_of (IsOpener s i) (Is s i) (λ r y. y.0) (read_of s start).recs o));
       }
 
 pub condition3 : (s : List ℕ) (start i : ℕ) → Condition3 s start i (answers_of s start i)

@@ -16,7 +16,7 @@ use Rattle.check_nesting.specs.Stack.{open_scope}
 use Rattle.agreement.proofs.Nest.{indexes, length_indexes, NestsAt, First, done, passes, opens, closes, nests-ind}
 use Rattle.agreement.proofs.Turns.{same_out, same_count, walk_plain, walk_open, walk_close}
 
--- the walk w ends as v does, and visits more records
+-- the search w ends as v does, and visits more records
 pub record Through (w v : Search) : Type 0 where
   pub outs : w.out ≡ v.out
   pub more : length v.visited < length w.visited

@@ -25,7 +25,7 @@ use Rattle.jump.specs.Hop.{hop_of, land_of}
 use Rattle.jump.specs.Jump.{on_hop, jump_from}
 use Rattle.jump.proofs.Jumps.{jump_by_lem}
 
--- equal walks end alike
+-- equal searches end alike
 pub same_out : {w v : Search} → w ≡ v → w.out ≡ v.out
 same_out = ap (λ (x : Search). x.out)
 

@@ -11,7 +11,7 @@ use Rattle.iter.proofs.Reading.{Stepped, step_fits}
 use Rattle.iter.proofs.Steps.{record_of}
 use Rattle.chain.specs.Finding.{Search, seen, found_at, answer_of, finding_of}
 
--- F is the walk from a position of the stream with a stack. The walk from the start ends as the walk from here does, with the stack that
+-- F is the search from a position of the stream with a stack. The search from the start ends as the one from here does, with the stack that
 -- the chain lists, and with the records read so far before its own.
 pub record Going (F : ℕ → List ℕ → Search) (s : List ℕ) (start : ℕ) (chain : List ℕ) (at read : ℕ) : Type 0 where
   pub outs : (F start []).out ≡ (F at (reverse chain)).out
@@ -19,7 +19,7 @@ pub record Going (F : ℕ → List ℕ → Search) (s : List ℕ) (start : ℕ) 
   pub few : read + (length s - at) ≤ length s
 
 module _ {F : ℕ → List ℕ → Search} {s : List ℕ} {start : ℕ} {chain : List ℕ} {at read : ℕ} (g : Going F s start chain at read) where
-  -- the answer, where the walk that is left is w
+  -- the answer, where the search that is left is w
   pub ends : {w : Search} → F at (reverse chain) ≡ w → answer_of w.out (read + length w.visited) ≡ finding_of (F start [])
   ends e = rw (g.outs, g.counts, e)
 

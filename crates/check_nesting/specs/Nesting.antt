@@ -1,4 +1,4 @@
--- What the check asks of records, as a relation.
+-- What the check asks of records (document 01, "Check"), as a relation.
 use Rattle.std.specs.Prelude.{◌<◌, ◌≡◌, List, [], ◌∷◌, length, Some}
 use Rattle.constants.specs.declared.Role.TheVariants.{Neither, Opens, Closes}
 use Rattle.constants.specs.Raw.{nesting_role_of}

@@ -68,10 +68,11 @@ pub fn hop_at(r: Record, rec: &[u8], i: usize, depth: usize) -> Result<Hop, Refu
 pub fn land_at(s: &[u8], end: usize) -> Result<Record, Refusal>
     ensures { result ≡ land_of s.now end }
 {
-    match iter::step(s, end)? {
-        Next::Record(r) if r.index == end && constants::nesting_role(r.kind) == Role::Closes => Ok(
-            r,
-        ),
-        _ => Err(Refusal::UnusableLink),
+    let Next::Record(r) = iter::step(s, end)? else {
+        return Err(Refusal::UnusableLink);
+    };
+    if r.index != end || constants::nesting_role(r.kind) != Role::Closes {
+        return Err(Refusal::UnusableLink);
     }
+    Ok(r)
 }
