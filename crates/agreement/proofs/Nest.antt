@@ -9,7 +9,7 @@ use Rattle.iter.specs.Reading.{bytes_at, rec_at, ends, refuses, Reading, read_of
 use Rattle.iter.specs.declared.Next.{Next}
 use Rattle.iter.specs.declared.Record.{Record}
 use Rattle.iter.specs.declared.Next.TheVariants as N
-use Rattle.iter.proofs.Later.{later-ind}
+use Rattle.common.proofs.Later.{later-ind}
 use Rattle.iter.proofs.Reading.{read_by}
 use Rattle.links.specs.Links.{links_of}
 use Rattle.links.specs.declared.Links.{Links}

@@ -3,7 +3,7 @@
 use Rattle.std.proofs.Common.{◌<◌, arith}
 use Rattle.common.specs.Refused.{refusal_number}
 use Rattle.common.specs.declared.Refusal.{Refusal}
-use Rattle.common.specs.declared.Refusal.TheVariants.{UnexpectedEof, SymbolTooShort, UnimplementedKind, UnexpectedNumericPrefix, TooLong, UnreadableOpener, OpenerAt0, WrongParent, TooDeep, NothingOpen, WrongEnd, LeftOpen, UnusableLink, NothingThere}
+use Rattle.common.specs.declared.Refusal.TheVariants.{UnexpectedEof, SymbolTooShort, UnimplementedKind, UnexpectedNumericPrefix, TooLong, UnreadableOpener, OpenerAt0, WrongParent, TooDeep, NothingOpen, WrongEnd, LeftOpen, UnusableLink, NothingThere, InvalidCompressedAnnotation, UnknownBinaryAnnotation}
 
 pub number_above : (e : Refusal) → 0 < refusal_number e
 number_above (UnexpectedEof at) = omega arith
@@ -20,3 +20,5 @@ number_above (WrongEnd at) = omega arith
 number_above (LeftOpen at) = omega arith
 number_above UnusableLink = omega arith
 number_above NothingThere = omega arith
+number_above (InvalidCompressedAnnotation at) = omega arith
+number_above (UnknownBinaryAnnotation code) = omega arith

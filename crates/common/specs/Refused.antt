@@ -1,10 +1,10 @@
 -- What a refusal tells (document 01: "A refusal carries its number, its position (a step's own where a step refuses, 0 where none is
--- said), for 3 the kind, for 4 the prefix, and no more").
+-- said), for 3 the kind, for 4 the prefix, and no more"; document 02, M-100: for 16 the code).
 use Rattle.std.specs.Prelude.{ℕ}
 use Rattle.common.specs.declared.Refusal.{Refusal}
-use Rattle.common.specs.declared.Refusal.TheVariants.{UnexpectedEof, SymbolTooShort, UnimplementedKind, UnexpectedNumericPrefix, TooLong, UnreadableOpener, OpenerAt0, WrongParent, TooDeep, NothingOpen, WrongEnd, LeftOpen, UnusableLink, NothingThere}
+use Rattle.common.specs.declared.Refusal.TheVariants.{UnexpectedEof, SymbolTooShort, UnimplementedKind, UnexpectedNumericPrefix, TooLong, UnreadableOpener, OpenerAt0, WrongParent, TooDeep, NothingOpen, WrongEnd, LeftOpen, UnusableLink, NothingThere, InvalidCompressedAnnotation, UnknownBinaryAnnotation}
 
--- the number, the position, and the kind or the prefix; 0 for what is not said
+-- the number, the position, and the kind, the prefix or the code; 0 for what is not said
 pub record Told : Type 0 where
   pub number : ℕ
   pub position : ℕ
@@ -28,6 +28,8 @@ told_of (WrongEnd at) = told 11 at 0
 told_of (LeftOpen at) = told 12 at 0
 told_of UnusableLink = told 13 0 0
 told_of NothingThere = told 14 0 0
+told_of (InvalidCompressedAnnotation at) = told 15 at 0
+told_of (UnknownBinaryAnnotation code) = told 16 0 code
 
 abbrev pub refusal_number : Refusal → ℕ
 refusal_number e = (told_of e).number

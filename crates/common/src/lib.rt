@@ -67,6 +67,14 @@ pub enum Refusal {
     /// 14: no record, opener, register list or entry stands there.
     #[error("nothing of the kind stands there")]
     NothingThere,
+
+    /// 15: the compressed number at this position is cut off or malformed.
+    #[error("the compressed number at {0} is cut off or malformed")]
+    InvalidCompressedAnnotation(usize),
+
+    /// 16: no instruction of an inline site has this code.
+    #[error("no instruction has the code {0}")]
+    UnknownBinaryAnnotation(u32),
 }
 
 impl Refusal {
@@ -89,6 +97,8 @@ impl Refusal {
             Refusal::LeftOpen(_) => 12,
             Refusal::UnusableLink => 13,
             Refusal::NothingThere => 14,
+            Refusal::InvalidCompressedAnnotation(_) => 15,
+            Refusal::UnknownBinaryAnnotation(_) => 16,
         }
     }
 
@@ -105,17 +115,19 @@ impl Refusal {
             Refusal::NothingOpen(at) => at,
             Refusal::WrongEnd(at) => at,
             Refusal::LeftOpen(at) => at,
+            Refusal::InvalidCompressedAnnotation(at) => at,
             _ => 0,
         }
     }
 
-    /// The kind or the prefix that it carries, 0 where it carries none.
+    /// The kind, the prefix or the code that it carries, 0 where it carries none.
     pub fn detail(self) -> u64
         ensures { result ≡ refusal_detail self }
     {
         match self {
             Refusal::UnimplementedKind(kind) => kind as u64,
             Refusal::UnexpectedNumericPrefix(prefix) => prefix as u64,
+            Refusal::UnknownBinaryAnnotation(code) => code as u64,
             _ => 0,
         }
     }

@@ -1,4 +1,3 @@
-pub mod Later
 pub mod Laws
 pub mod Reading
 pub mod Records

@@ -12,7 +12,7 @@ use Rattle.iter.specs.declared.Scan.{Scan}
 use Rattle.iter.specs.declared.Next.{Next}
 use Rattle.iter.specs.declared.Record.{Record}
 use Rattle.iter.specs.declared.Next.TheVariants as N
-use Rattle.iter.proofs.Later.{unroll}
+use Rattle.common.proofs.Later.{unroll}
 use Rattle.iter.proofs.Laws.{Fits, scan-ind}
 
 -- A record that is yielded at p: what stands there is no filler, and its bytes are behind its length field.

@@ -15,7 +15,7 @@ use Rattle.iter.specs.Reading.{Rec, ends, refuses, Reading, bytes_at, rec_at, en
 use Rattle.iter.specs.declared.Next.{Next}
 use Rattle.iter.specs.declared.Record.{Record}
 use Rattle.iter.specs.declared.Next.TheVariants as N
-use Rattle.iter.proofs.Later.{later-ind}
+use Rattle.common.proofs.Later.{later-ind}
 use Rattle.iter.proofs.Reading.{own, fillers_of, fillers_to, step_fits, end_is, read_by}
 
 -- What is shown of every reading by what its first step says: nothing is left, a refusal, or a record and the reading from its next position.

@@ -17,7 +17,7 @@ use Rattle.jump.specs.declared.hop.Hop.TheVariants as H
 use Rattle.jump.specs.Hop.{hop_of, land_of}
 use Rattle.jump.specs.Jump.{on_land, on_hop, on_step, jump_body, jump_by, jump_from, jump_of}
 use Rattle.jump.proofs.Hops.{over_after, lands}
-use Rattle.iter.proofs.Later.{unroll}
+use Rattle.common.proofs.Later.{unroll}
 
 -- the body calls later positions only
 module _ (s : List ℕ) (i : ℕ) (f g : ℕ → List ℕ → Search) where
