@@ -1,2 +1,3 @@
-// Document 01's examples, proved of the definitions in one table (specs/Examples.antt). There is no code here.
+// Document 01's examples (specs/Examples.antt), and the line programs of pdb's own tests (specs/Programs.antt), proved of the definitions. There
+// is no code here.
 #![tactic(auto)]

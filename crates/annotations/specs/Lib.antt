@@ -1,0 +1,3 @@
+pub mod Compressed
+pub mod Annotation
+pub mod Program
