@@ -8,6 +8,12 @@ extern "C" {
     fn mitrelilac_kind(record: *const u8, length: usize, out: *mut u64) -> u32;
     fn mitrelilac_name(record: *const u8, length: usize, out: *mut u64) -> u32;
     fn mitrelilac_register_entry(record: *const u8, length: usize, k: usize, out: *mut u64) -> u32;
+    fn mitrelilac_annotation(
+        annotations: *const u8,
+        length: usize,
+        position: usize,
+        out: *mut u64,
+    ) -> u32;
     fn mitrelilac_check(stream: *const u8, length: usize, start: usize, out: *mut u64) -> u32;
     fn mitrelilac_walk(
         stream: *const u8,
@@ -28,12 +34,13 @@ extern "C" {
 }
 
 /// The operations that the library exports, each with the words that it is lent.
-pub const OPS: [(Op, usize); 9] = [
+pub const OPS: [(Op, usize); 10] = [
     (Op::Step, 5),
     (Op::Decode, 24),
     (Op::Name, 3),
     (Op::Register, 3),
     (Op::Scope, 3),
+    (Op::Annotation, 5),
     (Op::Check, 6),
     (Op::Walk, 66),
     (Op::Jump, 66),
@@ -66,6 +73,7 @@ impl Call {
                 Op::Name => mitrelilac_name(bytes, length, out),
                 Op::Register => mitrelilac_register_entry(bytes, length, arg, out),
                 Op::Scope => mitrelilac_kind(bytes, length, out),
+                Op::Annotation => mitrelilac_annotation(bytes, length, arg, out),
                 Op::Check => mitrelilac_check(bytes, length, start, out),
                 Op::Walk => mitrelilac_walk(bytes, length, start, arg, out),
                 Op::Jump => mitrelilac_jump(bytes, length, start, arg, out),

@@ -8,6 +8,8 @@
 mod answer;
 #[path = "../oracle/src/cases.rs"]
 mod cases;
+#[path = "../oracle/src/line_programs.rs"]
+mod line_programs;
 #[allow(dead_code)]
 #[path = "../oracle/src/list.rs"]
 mod list;

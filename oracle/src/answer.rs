@@ -213,7 +213,10 @@ fn annotation(bytes: &[u8], at: u64) -> Reply<'_> {
     let answer = Answer::new(bytes, at);
     match annotations.next() {
         Ok(None) => Ok(answer.put(0)),
-        Ok(Some(instruction)) => Ok(answer.put(instruction).put(at + annotations.pos())),
+        Ok(Some(instruction)) => {
+            let next = at + annotations.pos();
+            Ok(answer.put(1).put(instruction).put(next))
+        }
         Err(error @ Error::UnknownBinaryAnnotation(_)) => Err(error.into()),
         // pdb tells a number cut off from a malformed one; the answer doesn't.
         Err(_) => Err(Refusal::new(15).at(at + start.unreadable())),

@@ -5,13 +5,14 @@ use std::iter;
 use crate::answer::Op;
 use crate::list::Question;
 use crate::random::Random;
-use crate::{numbers, records, scopes, steps};
+use crate::{line_programs, numbers, records, scopes, steps};
 
-pub const GROUPS: &str = "constants, numbers, records, steps, nesting, real, signed";
+pub const GROUPS: &str =
+    "constants, numbers, records, steps, nesting, real, signed, annotations, brief, sites";
 
 pub type Questions = Box<dyn Iterator<Item = Question>>;
 
-/// A group's questions; the constants and the signed ones are all there are of them, whatever the count.
+/// A group's questions; of constants, signed, brief and sites they are all there are, whatever the count.
 pub fn questions(group: &str, count: u64, seed: u64) -> Option<Questions> {
     let count = count as usize;
     let random = Random(seed);
@@ -23,6 +24,14 @@ pub fn questions(group: &str, count: u64, seed: u64) -> Option<Questions> {
         "nesting" => Some(mixed(scopes::grid, scopes::question, count, random)),
         "real" => Some(mixed(|_| Vec::new(), scopes::real_question, count, random)),
         "signed" => Some(Box::new(records::signed())),
+        "annotations" => Some(mixed(
+            line_programs::grid,
+            line_programs::question,
+            count,
+            random,
+        )),
+        "brief" => Some(Box::new(line_programs::brief())),
+        "sites" => Some(Box::new(line_programs::sites())),
         _ => None,
     }
 }

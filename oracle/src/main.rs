@@ -2,6 +2,7 @@
 
 mod answer;
 mod cases;
+mod line_programs;
 mod list;
 mod nesting;
 mod numbers;

@@ -1,6 +1,6 @@
 -- Laws of what the exported functions return and write, from what their contracts say.
 -- Assumes nothing.
-use Rattle.std.proofs.Common.{ℕ, ◌≤◌, ◌≡◌, refl, ◌∙◌, ap, sym, subst, arith, List, [], ◌∷◌, ◌++◌, length, take, drop, Result, Ok, Err}
+use Rattle.std.proofs.Common.{ℕ, ◌≤◌, ◌≡◌, refl, ◌∙◌, ap, sym, subst, arith, List, [], ◌∷◌, ◌++◌, length, take, drop, Option, None, Some, Result, Ok, Err}
 use Rattle.std.specs.Result.{result_unwrap_or}
 use Rattle.std.proofs.Math.ListN.{get_or}
 use Rattle.std.proofs.Math.Seq.{take-append_seam}
@@ -8,6 +8,8 @@ use Rattle.std.proofs.lemmas.List.{length-append, length-replicate, length-rever
 use Rattle.common.specs.declared.Refusal.{Refusal}
 use Rattle.common.specs.declared.Refusal.TheVariants.{NothingThere}
 use Rattle.common.proofs.Numbers.{number_above}
+use Rattle.annotations.specs.Annotation.{MovesOn}
+use Rattle.annotations.specs.declared.BinaryAnnotation.{BinaryAnnotation}
 use Rattle.iter.specs.Reading.{read_of}
 use Rattle.chain.specs.Chain.{places}
 use Rattle.chain.specs.declared.Found.{Found}
@@ -21,8 +23,8 @@ use Rattle.agreement.specs.Agreement.{enclosing, BothAnswer, BothRefuse, ClimbsT
 use Rattle.agreement.proofs.Agreement.{condition3}
 use Rattle.words.specs.Written.{written}
 use Rattle.reply.specs.Reply.{Replied}
-use Rattle.reply.specs.Replies.{check_reply, finding_reply, chain_words}
-use Rattle.mitrelilac.specs.Exported.{Call, call, SumsUp, count, chain_told, CallsAnswer, CallsRefuse, ClimbCallFinds, CallsMeetCondition3}
+use Rattle.reply.specs.Replies.{annotation_reply, check_reply, finding_reply, chain_words}
+use Rattle.mitrelilac.specs.Exported.{Call, call, SumsUp, CallMovesOn, count, chain_told, CallsAnswer, CallsRefuse, ClimbCallFinds, CallsMeetCondition3}
 
 -- the check returns 0 only where it passes
 passed : (r : Result Counts Refusal) {returned : ℕ} {before after : List ℕ} → Replied (check_reply r) returned before after →
@@ -35,6 +37,13 @@ pub sums_up : (r : Result Counts Refusal) (s : List ℕ) (start : ℕ) {returned
 unfolding written
 sums_up (Ok n) s start g sums z = rw g.words sums
 sums_up (Err e) s start g sums z = absurd (omega (arith, number_above e, g.number))
+
+pub call_moves_on : (r : Result (Option (BinaryAnnotation × ℕ)) Refusal) (s : List ℕ) (at : ℕ) {returned : ℕ} {before after : List ℕ} →
+    Replied (annotation_reply r) returned before after → MovesOn s at r → CallMovesOn s at (call returned after)
+unfolding written
+call_moves_on (Ok (Some x)) s at g moves z one = rw g.words moves
+call_moves_on (Ok None) s at g moves z one = absurd (omega (arith, ap (λ (out : List ℕ). get_or out 0 0) g.words))
+call_moves_on (Err e) s at g moves z one = absurd (omega (arith, number_above e, g.number))
 
 -- a chain of 64 positions at the most has 64 places
 full : (chain : List ℕ) → length chain ≤ 64 → length (places chain) ≡ 64

@@ -1,6 +1,6 @@
--- What document 01 says of what the calls return, said of what C receives: the numbers that the exported functions return, and the words
+-- What documents 01 and 02 say of what the calls return, said of what C receives: the numbers that the exported functions return, and the words
 -- of `out` as they are afterwards.
-use Rattle.std.specs.Prelude.{ℕ, ◌+◌, ◌-◌, ◌≤◌, ◌≡◌, List, [], ◌∷◌, length, take, drop, reverse, get_or}
+use Rattle.std.specs.Prelude.{ℕ, ◌+◌, ◌-◌, ◌<◌, ◌≤◌, ◌≡◌, List, [], ◌∷◌, length, take, drop, reverse, get_or}
 use Rattle.iter.specs.Step.{within}
 use Rattle.iter.specs.Reading.{Begins}
 use Rattle.agreement.specs.Agreement.{OpenerBegins, enclosing}
@@ -17,6 +17,12 @@ call returned out = record { returned = returned; out = out }
 -- Check, where it returned 0: the two byte sums, out[1] and out[3], add up to stream length minus start, the start brought within the stream.
 abbrev pub SumsUp : List ℕ → ℕ → Call → Type 0
 SumsUp s start check = check.returned ≡ 0 → get_or check.out 1 0 + get_or check.out 3 0 ≡ length s - within s start
+
+-- Annotation, where it returned 0 and out[0] is 1: the next position, out[4], is behind the one that was asked, and within the bytes.
+abbrev pub CallMovesOn : List ℕ → ℕ → Call → Type 0
+CallMovesOn s at annotation =
+    annotation.returned ≡ 0 → get_or annotation.out 0 0 ≡ 1 →
+    (at < get_or annotation.out 4 0) × (get_or annotation.out 4 0 ≤ length s)
 
 -- The words of a finder's answer: out[0] is its count, and from out[1] on, 65 words, stand how many scopes there are and the 64 places
 -- (`chain_words`).

@@ -12,14 +12,15 @@ ghost use Rattle.constants.specs.Raw.{raw_kind};
 ghost use Rattle.symbol.specs.Decode.{decode};
 ghost use Rattle.symbol.specs.Name.{name_of};
 ghost use Rattle.symbol.specs.Entry.{register_entry};
+ghost use Rattle.annotations.specs.Annotation.{annotation};
 ghost use Rattle.iter.specs.Step.{step_of};
 ghost use Rattle.check_nesting.specs.Check.{check_of};
 ghost use Rattle.walk.specs.Walk.{walk_of};
 ghost use Rattle.jump.specs.Jump.{jump_of};
 ghost use Rattle.climb.specs.Climb.{climb_of};
 ghost use Rattle.reply.specs.Reply.{Replied};
-ghost use Rattle.reply.specs.Replies.{step_reply, kind_reply, decode_reply, name_reply, entry_reply, check_reply, finding_reply};
-ghost use Rattle.mitrelilac.specs.Exported.{call, SumsUp};
+ghost use Rattle.reply.specs.Replies.{step_reply, kind_reply, decode_reply, name_reply, entry_reply, annotation_reply, check_reply, finding_reply};
+ghost use Rattle.mitrelilac.specs.Exported.{call, SumsUp, CallMovesOn};
 
 /// One step from a position. End: 0, position. A record: 1, index, where its bytes start, how many they are, next position.
 pub fn mitrelilac_step(stream: &[u8], position: usize, out: &mut [u64; 5]) -> u32
@@ -63,6 +64,16 @@ pub fn mitrelilac_register_entry(rec: &[u8], k: usize, out: &mut [u64; 3]) -> u3
     ensures { Replied (entry_reply (register_entry rec.now k)) result out.old out.new }
 {
     reply::reply_entry(symbol::register_entry::register_entry(rec, k), out)
+}
+
+/// The instruction at a position in the annotations of an inline site: 1, its code, its operands, the next position; 0 alone where they
+/// are done.
+#[tactic(auto, using(crate::proofs::Exported::call_moves_on))]
+pub fn mitrelilac_annotation(annotations: &[u8], position: usize, out: &mut [u64; 5]) -> u32
+    ensures replied { Replied (annotation_reply (annotation annotations.now position)) result out.old out.new }
+    ensures moves_on { CallMovesOn annotations.now position (call result out.new) }
+{
+    reply::annotation::reply_annotation(annotations::annotation(annotations, position), out)
 }
 
 /// The nesting check from a start: records read and their bytes, fillers passed over and theirs, openers, deepest nesting.

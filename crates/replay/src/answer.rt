@@ -6,8 +6,8 @@ use constants::class_number;
 use constants::compiler::{cpu_type, source_language};
 use constants::kind::{ends_scope, starts_scope};
 use mitrelilac::{
-    mitrelilac_check, mitrelilac_climb, mitrelilac_decode, mitrelilac_jump, mitrelilac_kind,
-    mitrelilac_name, mitrelilac_register_entry, mitrelilac_step, mitrelilac_walk,
+    mitrelilac_annotation, mitrelilac_check, mitrelilac_climb, mitrelilac_decode, mitrelilac_jump,
+    mitrelilac_kind, mitrelilac_name, mitrelilac_register_entry, mitrelilac_step, mitrelilac_walk,
 };
 use names::{Part, parse_cstring, parse_u8_pascal_string};
 use record_words::field::{variant_number, variant_value};
@@ -95,6 +95,7 @@ pub fn answer(op: u64, arg: u64, start: u64, s: &[u8]) -> Words {
         34 => called([FREE; 3], |out| mitrelilac_name(s, out)),
         35 => called([FREE; 3], |out| mitrelilac_register_entry(s, at, out)),
         36 => called([FREE; 3], |out| mitrelilac_kind(s, out)),
+        37 => called([FREE; 5], |out| mitrelilac_annotation(s, at, out)),
         40 => called([FREE; 6], |out| mitrelilac_check(s, from, out)),
         41 => called([FREE; 66], |out| mitrelilac_walk(s, from, at, out)),
         42 => called([FREE; 66], |out| mitrelilac_jump(s, from, at, out)),

@@ -2,6 +2,8 @@
 // them stay as they were. A part of a record is told by where it starts and how long it is.
 #![tactic(auto)]
 
+pub mod annotation;
+
 ghost use Rattle.std.specs.Prelude.{◌≡◌, ◌≤◌, length};
 ghost use Rattle.words.specs.Written.{written};
 ghost use Rattle.reply.specs.Reply.{Replied, answers, refusal_reply};
