@@ -68,7 +68,9 @@ enum mitrelilac_number {
     MITRELILAC_WRONG_END = 11,                /* check: a closer elsewhere than its opener's end field says, at its index */
     MITRELILAC_LEFT_OPEN = 12,                /* check: the stream ends in a scope, at the innermost one's index */
     MITRELILAC_UNUSABLE_LINK = 13,            /* jump, climb: a link that can't be followed */
-    MITRELILAC_NOTHING_THERE = 14             /* no record begins there, or it is no opener, no register list, or has no such entry */
+    MITRELILAC_NOTHING_THERE = 14,            /* no record begins there, or it is no opener, no register list, or has no such entry */
+    MITRELILAC_INVALID_COMPRESSED_ANNOTATION = 15, /* annotation: a number is cut off or malformed, at its first byte */
+    MITRELILAC_UNKNOWN_BINARY_ANNOTATION = 16 /* annotation: no instruction has this code, which is the detail */
 };
 
 /*
@@ -258,7 +260,7 @@ enum mitrelilac_class {
  *     LOCAL                     2 type   3 mitrelilac_local_flags   4 name
  *     BUILD_INFO                2 id
  *     INLINE_SITE               2 parent   3 end   4 id of the inlined function   5 has a number of invocations?   6 that number, or 0
- *                               7 annotations (a part: the line program, not decoded)
+ *                               7 annotations (a part: the line program; see mitrelilac_annotation)
  *     INLINE_SITE_END          none
  *     PROCEDURE_END            none
  *     LABEL                     2 code   4 mitrelilac_procedure_flags   5 name
@@ -453,6 +455,46 @@ enum mitrelilac_processor {
     MITRELILAC_PROCESSOR_THUMB = 0xf0,
     MITRELILAC_PROCESSOR_ARMNT = 0xf4,
     MITRELILAC_PROCESSOR_D3D11_SHADER = 0x100
+};
+
+/*
+ * The instruction at a position in the annotations of an inline site, its line program: which code of the inlined function stands for which
+ * of its lines. Start at position 0 of the part that mitrelilac_decode answers, and go on at the next position that each call answers.
+ *
+ *     out[0]  1: an instruction       0: there is none any more
+ *     out[1]  mitrelilac_annotation_code
+ *     out[2]  its operand
+ *     out[3]  its second operand; 0 if it has one alone
+ *     out[4]  the next position
+ *
+ * Where there is none any more only out[0] is written: at or past the end of the bytes, and at code 0, whatever follows it, since linkers pad
+ * with zeros. Of an instruction the next position is above `position` and not above `length`, so that reading on ends. This is proved, of
+ * the words (crates/mitrelilac/specs/Exported.antt). How many bytes there are has no limit.
+ *
+ * Refuses
+ *     15  a number of the instruction is cut off, or its first byte is above 0xdf: the position of that byte
+ *     16  no instruction has this code: position 0, and the code as detail
+ */
+uint32_t mitrelilac_annotation(const uint8_t *annotations, size_t length, size_t position, uint64_t out[MITRELILAC_WORDS(5)]);
+
+/*
+ * The instructions. Those marked * emit a line record, from the offset and the line that the ones up to them say; how much code a record
+ * covers, its code length says, or else the offset of the next one. Numbers are below 0x20000000.
+ */
+enum mitrelilac_annotation_code {
+    MITRELILAC_ANNOTATION_CODE_OFFSET = 1,                             /* the code offset */
+    MITRELILAC_ANNOTATION_CHANGE_CODE_OFFSET_BASE = 2,                 /* the base of the code offsets that follow */
+    MITRELILAC_ANNOTATION_CHANGE_CODE_OFFSET = 3,                      /* * by how much the code offset grows */
+    MITRELILAC_ANNOTATION_CHANGE_CODE_LENGTH = 4,                      /* the code length of the last line record; the code offset grows by it */
+    MITRELILAC_ANNOTATION_CHANGE_FILE = 5,                             /* the file of the line records that follow */
+    MITRELILAC_ANNOTATION_CHANGE_LINE_OFFSET = 6,                      /* by how much the line grows (signed) */
+    MITRELILAC_ANNOTATION_CHANGE_LINE_END_DELTA = 7,                   /* how many lines a record covers; 1 if it is not set */
+    MITRELILAC_ANNOTATION_CHANGE_RANGE_KIND = 8,                       /* 1 for a statement, also if it is not set; 0 for an expression */
+    MITRELILAC_ANNOTATION_CHANGE_COLUMN_START = 9,                     /* the first column; 0 for none */
+    MITRELILAC_ANNOTATION_CHANGE_COLUMN_END_DELTA = 10,                /* by how much the last column grows (signed) */
+    MITRELILAC_ANNOTATION_CHANGE_CODE_OFFSET_AND_LINE_OFFSET = 11,     /* * by how much the code offset grows, and the line (signed) */
+    MITRELILAC_ANNOTATION_CHANGE_CODE_LENGTH_AND_CODE_OFFSET = 12,     /* * the code length, and by how much the code offset grows */
+    MITRELILAC_ANNOTATION_CHANGE_COLUMN_END = 13                       /* the last column */
 };
 
 #ifdef __cplusplus

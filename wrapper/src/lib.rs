@@ -14,9 +14,11 @@
 
 #![deny(unsafe_op_in_unsafe_fn)]
 
+mod annotation;
 mod refusal;
 mod symbol;
 
+pub use annotation::{annotation, BinaryAnnotation, BinaryAnnotations};
 pub use refusal::{Reason, Refusal};
 pub use symbol::*;
 
@@ -35,6 +37,12 @@ extern "C" {
         length: usize,
         k: usize,
         out: &mut [u64; 3],
+    ) -> u32;
+    fn mitrelilac_annotation(
+        annotations: *const u8,
+        length: usize,
+        position: usize,
+        out: &mut [u64; 5],
     ) -> u32;
     fn mitrelilac_check(stream: *const u8, length: usize, start: usize, out: &mut [u64; 6]) -> u32;
     fn mitrelilac_walk(

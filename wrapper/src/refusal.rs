@@ -10,7 +10,7 @@ pub struct Refusal {
     pub position: usize,
 }
 
-/// The numbers 1 to 14, in their order.
+/// The numbers 1 to 16, in their order.
 #[derive(Clone, Copy, Debug, PartialEq, Eq)]
 pub enum Reason {
     UnexpectedEof,
@@ -27,16 +27,17 @@ pub enum Reason {
     LeftOpen,
     UnusableLink,
     NothingThere,
+    InvalidCompressedAnnotation,
+    UnknownBinaryAnnotation(u32),
 }
 
 impl Refusal {
     pub(crate) fn new(number: u32, position: u64, detail: u64) -> Self {
-        let detail = detail as u16;
         let reason = match number {
             1 => Reason::UnexpectedEof,
             2 => Reason::SymbolTooShort,
-            3 => Reason::UnimplementedKind(detail),
-            4 => Reason::UnexpectedNumericPrefix(detail),
+            3 => Reason::UnimplementedKind(detail as u16),
+            4 => Reason::UnexpectedNumericPrefix(detail as u16),
             5 => Reason::TooLong,
             6 => Reason::UnreadableOpener,
             7 => Reason::OpenerAt0,
@@ -47,6 +48,8 @@ impl Refusal {
             12 => Reason::LeftOpen,
             13 => Reason::UnusableLink,
             14 => Reason::NothingThere,
+            15 => Reason::InvalidCompressedAnnotation,
+            16 => Reason::UnknownBinaryAnnotation(detail as u32),
             _ => unreachable!("the library refuses with {number}, which is none of its numbers"),
         };
         let position = position as usize;
@@ -76,6 +79,12 @@ impl fmt::Display for Refusal {
             Reason::LeftOpen => write!(f, "a scope is left open"),
             Reason::UnusableLink => write!(f, "a link can't be followed"),
             Reason::NothingThere => write!(f, "nothing is there"),
+            Reason::InvalidCompressedAnnotation => {
+                write!(f, "a compressed number is cut off or malformed")
+            }
+            Reason::UnknownBinaryAnnotation(code) => {
+                write!(f, "no instruction has the code {code}")
+            }
         }?;
         match self.position {
             0 => Ok(()),

@@ -2,7 +2,7 @@
 
 use std::num::NonZeroU32;
 
-use crate::part;
+use crate::{part, BinaryAnnotations};
 
 /// The words of a decoded record that are still to be read, and the record whose parts they name.
 pub(crate) struct Words<'r, 'w> {
@@ -59,6 +59,12 @@ impl<'r> Field<'r> for &'r [u8] {
     fn take(words: &mut Words<'r, '_>) -> Self {
         let (start, length) = (words.word(), words.word());
         part(words.record, start, length)
+    }
+}
+
+impl<'r> Field<'r> for BinaryAnnotations<'r> {
+    fn take(words: &mut Words<'r, '_>) -> Self {
+        BinaryAnnotations::new(words.take())
     }
 }
 
@@ -264,7 +270,7 @@ symbols! {
     19 BuildInfo { id: u32, }
     20 InlineSite {
         parent: Option<NonZeroU32>, end: u32, inlinee: u32, invocations: Option<u32>,
-        annotations: &'r [u8],
+        annotations: BinaryAnnotations<'r>,
     }
     21 InlineSiteEnd
     22 ProcedureEnd

@@ -253,7 +253,7 @@ fn scopes() {
         end: 0x44,
         inlinee: 0x1003,
         invocations,
-        annotations: b"\x0b\x01",
+        annotations: BinaryAnnotations::new(b"\x0b\x01"),
     };
     let links = b"\x04\0\0\0\x44\0\0\0\x03\x10\0\0";
     is(0x114d, &[links, b"\x0b\x01"], site(None));
