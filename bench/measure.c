@@ -20,7 +20,7 @@
 typedef uint32_t step_function(const uint8_t *, size_t, size_t, uint64_t *);
 typedef uint32_t record_function(const uint8_t *, size_t, uint64_t *);
 
-step_function pdb_step;
+step_function pdb_step, pdb_annotation;
 record_function pdb_decode, pdb_name;
 
 /* A module's records start behind its signature. */
@@ -39,6 +39,8 @@ struct stream {
     const uint8_t *bytes;
     size_t length;
     struct records all, decodable;
+    struct records sites; /* the annotations of inline sites */
+    size_t instructions;  /* how many these hold */
     uint64_t counts[6];   /* what the check says */
     size_t deepest;       /* the opener within most scopes */
     size_t lasts[SIZES];  /* the last record of a top-level scope: at a 32nd of the stream, a 16th, .., at its end */
@@ -73,6 +75,22 @@ static void add(struct records *records, struct record record)
     records->at[records->count++] = record;
 }
 
+static void read_site(struct stream *s, struct record site)
+{
+    const uint8_t *bytes = s->bytes + site.start;
+    uint64_t out[5] = { 0 }, other[5] = { 0 };
+    add(&s->sites, site);
+    for (size_t at = 0;; at = out[4]) {
+        uint32_t number = mitrelilac_annotation(bytes, site.length, at, out);
+        agree(number, pdb_annotation(bytes, site.length, at, other), out, other, 5);
+        if (number)
+            fail("an instruction is refused");
+        if (!out[0])
+            break;
+        s->instructions++;
+    }
+}
+
 static void read_record(struct stream *s, struct record record)
 {
     const uint8_t *bytes = s->bytes + record.start;
@@ -82,6 +100,8 @@ static void read_record(struct stream *s, struct record record)
     add(&s->all, record);
     if (number == 0)
         add(&s->decodable, record);
+    if (number == 0 && out[0] == MITRELILAC_INLINE_SITE)
+        read_site(s, (struct record){ record.start + (uint32_t)out[7], (uint32_t)out[8] });
     agree(mitrelilac_name(bytes, record.length, out), pdb_name(bytes, record.length, other), out, other, 24);
 }
 
@@ -123,6 +143,7 @@ static struct stream load(const char *path)
     s.bytes = bytes;
     s.all.at = room(s.length / 4 + 1, sizeof *s.all.at);
     s.decodable.at = room(s.length / 4 + 1, sizeof *s.decodable.at);
+    s.sites.at = room(s.length / 4 + 1, sizeof *s.sites.at);
     if (mitrelilac_check(s.bytes, s.length, START, s.counts) != 0)
         fail("the stream does not pass the check");
     read_stream(&s);
@@ -139,11 +160,22 @@ static struct stream load(const char *path)
 
 /* ---- Passes */
 
-static void step_all(const struct stream *s, step_function step)
+static void step_through(const uint8_t *bytes, size_t length, size_t at, step_function step)
 {
     uint64_t out[5] = { 1 };
-    for (size_t at = START; out[0]; at = out[4])
-        step(s->bytes, s->length, at, out);
+    for (; out[0]; at = out[4])
+        step(bytes, length, at, out);
+}
+
+static void step_all(const struct stream *s, step_function step)
+{
+    step_through(s->bytes, s->length, START, step);
+}
+
+static void annotate(const struct stream *s, step_function annotation)
+{
+    for (size_t k = 0; k < s->sites.count; k++)
+        step_through(s->bytes + s->sites.at[k].start, s->sites.at[k].length, 0, annotation);
 }
 
 static void ask_all(const struct stream *s, const struct records *records, record_function ask)
@@ -179,7 +211,8 @@ static void climb(const struct stream *s)
 }
 
 enum pass {
-    STEP, PDB_STEP, DECODE, PDB_DECODE, DECODE_KNOWN, PDB_DECODE_KNOWN, NAME, PDB_NAME, CHECK, CLIMB,
+    STEP, PDB_STEP, DECODE, PDB_DECODE, DECODE_KNOWN, PDB_DECODE_KNOWN, NAME, PDB_NAME,
+    ANNOTATE, PDB_ANNOTATE, CHECK, CLIMB,
     WALK, JUMP = WALK + SIZES, PASSES = JUMP + SIZES
 };
 
@@ -194,6 +227,8 @@ static void make(const struct stream *s, int pass)
     case PDB_DECODE_KNOWN: ask_all(s, &s->decodable, pdb_decode); break;
     case NAME: ask_all(s, &s->all, mitrelilac_name); break;
     case PDB_NAME: ask_all(s, &s->all, pdb_name); break;
+    case ANNOTATE: annotate(s, mitrelilac_annotation); break;
+    case PDB_ANNOTATE: annotate(s, pdb_annotation); break;
     case CHECK: check(s); break;
     case CLIMB: climb(s); break;
     default: pass < JUMP ? walk(s, pass - WALK) : jump(s, pass - JUMP);
@@ -280,13 +315,16 @@ static void report(const char *path, const struct stream *s, const struct times 
     size_t all = s->all.count, known = s->decodable.count, walked = s->walked[SIZES - 1];
     int walk = WALK + SIZES - 1, jump = JUMP + SIZES - 1;
     printf("### %s\n\n%zu bytes, %zu records, %zu of them with a layout, ", slash ? slash + 1 : path, s->length, all, known);
-    printf("%" PRIu64 " fillers, %" PRIu64 " scopes, %" PRIu64 " levels; ", s->counts[2], s->counts[4], s->counts[5]);
+    printf("%" PRIu64 " fillers, %" PRIu64 " scopes, %" PRIu64 " levels, ", s->counts[2], s->counts[4], s->counts[5]);
+    printf("%zu inline sites with %zu instructions; ", s->sites.count, s->instructions);
     printf("medians of %d rounds.\n\n", times->rounds);
     printf("| | ns per record | against | ns per record | ratio | wanted |\n|---|---|---|---|---|---|\n");
     row(times, "step through all", STEP, "pdb's iterator", PDB_STEP, all, "1.00");
     row(times, "decode all", DECODE, "pdb's parse", PDB_DECODE, all, "0.67");
     row(times, "decode those with a layout", DECODE_KNOWN, "pdb's parse", PDB_DECODE_KNOWN, known, "");
     row(times, "names of all", NAME, "pdb's name", PDB_NAME, all, "0.67");
+    if (s->instructions)
+        row(times, "annotations of all sites", ANNOTATE, "pdb's iterator", PDB_ANNOTATE, s->instructions, "1.00");
     row(times, "check", CHECK, "step through all", STEP, all, "2.00");
     row(times, "walk to the last record", walk, "step through all", STEP, walked, "1.30");
     row(times, "jump to the last record", jump, "walk to it", walk, walked, "0.20");

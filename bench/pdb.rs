@@ -53,6 +53,7 @@ fn refuse(out: &mut [u64], error: Error, position: usize) -> u32 {
         Error::SymbolTooShort => (2, 0),
         Error::UnimplementedSymbolKind(kind) => (3, kind),
         Error::UnexpectedNumericPrefix(prefix) => (4, prefix),
+        // No instruction of the streams that are measured is refused.
         _ => unreachable!(),
     };
     out[0] = position as u64;
@@ -117,6 +118,35 @@ pub unsafe extern "C" fn pdb_decode(record: *const u8, length: usize, out: &mut 
             answer.push(class_of(&symbol));
             consumed.write(&mut answer);
             symbol.write(&mut answer);
+            0
+        }
+        Err(error) => refuse(out, error, 0),
+    }
+}
+
+/// # Safety
+/// The pointer and the length are those of a slice.
+#[no_mangle]
+pub unsafe extern "C" fn pdb_annotation(
+    annotations: *const u8,
+    length: usize,
+    position: usize,
+    out: &mut [u64; 5],
+) -> u32 {
+    let annotations = unsafe { slice::from_raw_parts(annotations, length) };
+    let position = position.min(length);
+    let mut instructions = BinaryAnnotations::new(&annotations[position..]).iter();
+    match instructions.next() {
+        Ok(Some(instruction)) => {
+            let next = position + instructions.pos();
+            let mut answer = Answer::new(annotations, next, out);
+            answer.push(1);
+            instruction.write(&mut answer);
+            next.write(&mut answer);
+            0
+        }
+        Ok(None) => {
+            out[0] = 0;
             0
         }
         Err(error) => refuse(out, error, 0),
