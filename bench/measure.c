@@ -81,10 +81,9 @@ static void read_site(struct stream *s, struct record site)
     uint64_t out[5] = { 0 }, other[5] = { 0 };
     add(&s->sites, site);
     for (size_t at = 0;; at = out[4]) {
-        uint32_t number = mitrelilac_annotation(bytes, site.length, at, out);
-        agree(number, pdb_annotation(bytes, site.length, at, other), out, other, 5);
-        if (number)
+        if (mitrelilac_annotation(bytes, site.length, at, out) != 0)
             fail("an instruction is refused");
+        agree(0, pdb_annotation(bytes, site.length, at, other), out, other, 5);
         if (!out[0])
             break;
         s->instructions++;
@@ -324,7 +323,7 @@ static void report(const char *path, const struct stream *s, const struct times 
     row(times, "decode those with a layout", DECODE_KNOWN, "pdb's parse", PDB_DECODE_KNOWN, known, "");
     row(times, "names of all", NAME, "pdb's name", PDB_NAME, all, "0.67");
     if (s->instructions)
-        row(times, "annotations of all sites", ANNOTATE, "pdb's iterator", PDB_ANNOTATE, s->instructions, "1.00");
+        row(times, "annotations, per instruction", ANNOTATE, "pdb's iterator", PDB_ANNOTATE, s->instructions, "1.00");
     row(times, "check", CHECK, "step through all", STEP, all, "2.00");
     row(times, "walk to the last record", walk, "step through all", STEP, walked, "1.30");
     row(times, "jump to the last record", jump, "walk to it", walk, walked, "0.20");

@@ -1,6 +1,7 @@
 /*
- * Prints the line program of the inline site at a position, an instruction a line, as `llvm-pdbutil dump -symbols` does: its bytes, and
- * which code and which line of the inlined function it leads to.
+ * Prints the line program of the inline site at a position, an instruction a line: its bytes, and which code and which line of the
+ * inlined function it leads to. Those that clang writes are printed as `llvm-pdbutil dump -symbols` prints them; a code length moves the
+ * code offset, as it does there.
  *
  *     lines FILE POSITION
  */
@@ -76,8 +77,9 @@ static void print_instruction(struct place *at, uint64_t code, uint64_t first, u
 {
     switch (code) {
     case MITRELILAC_ANNOTATION_CODE_OFFSET:
-        at->code = 0; /* an offset, where the others say by how much it grows */
-        /* fall through */
+        at->code = first;
+        printf(" code 0x%" PRIX64, first);
+        break;
     case MITRELILAC_ANNOTATION_CHANGE_CODE_OFFSET:
         at->code += first;
         print_code(at, first);

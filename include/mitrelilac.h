@@ -1,6 +1,7 @@
 /*
- * Mitrelilac reads CodeView symbol streams, the records of a Windows PDB's module and symbol streams, and says which scopes a
- * record belongs to. This header is its manual; a whole program is examples/scopes.c.
+ * Mitrelilac reads CodeView symbol streams, the records of a Windows PDB's module and symbol streams, says which scopes a record
+ * belongs to, and reads the line programs of inlined code. This header is its manual; whole programs are examples/scopes.c and
+ * examples/lines.c.
  *
  *     cc -Iinclude program.c target/staticlib/libmitrelilac.a        x86-64 Linux; nothing more than the C library
  *
@@ -472,20 +473,22 @@ enum mitrelilac_processor {
  * the words (crates/mitrelilac/specs/Exported.antt). How many bytes there are has no limit.
  *
  * Refuses
- *     15  a number of the instruction is cut off, or its first byte is above 0xdf: the position of that byte
+ *     15  a number of the instruction is cut off, or its first byte is above 0xdf: the position of its first byte, which is
+ *         `length` where no byte of an operand is there
  *     16  no instruction has this code: position 0, and the code as detail
  */
 uint32_t mitrelilac_annotation(const uint8_t *annotations, size_t length, size_t position, uint64_t out[MITRELILAC_WORDS(5)]);
 
 /*
  * The instructions. Those marked * emit a line record, from the offset and the line that the ones up to them say; how much code a record
- * covers, its code length says, or else the offset of the next one. Numbers are below 0x20000000.
+ * covers, its code length says, or else the offset of the next one. Operands are below 0x20000000, signed ones between -0x10000000 and
+ * 0x10000000.
  */
 enum mitrelilac_annotation_code {
     MITRELILAC_ANNOTATION_CODE_OFFSET = 1,                             /* the code offset */
     MITRELILAC_ANNOTATION_CHANGE_CODE_OFFSET_BASE = 2,                 /* the base of the code offsets that follow */
     MITRELILAC_ANNOTATION_CHANGE_CODE_OFFSET = 3,                      /* * by how much the code offset grows */
-    MITRELILAC_ANNOTATION_CHANGE_CODE_LENGTH = 4,                      /* the code length of the last line record; the code offset grows by it */
+    MITRELILAC_ANNOTATION_CHANGE_CODE_LENGTH = 4,                      /* the code length of the last line record */
     MITRELILAC_ANNOTATION_CHANGE_FILE = 5,                             /* the file of the line records that follow */
     MITRELILAC_ANNOTATION_CHANGE_LINE_OFFSET = 6,                      /* by how much the line grows (signed) */
     MITRELILAC_ANNOTATION_CHANGE_LINE_END_DELTA = 7,                   /* how many lines a record covers; 1 if it is not set */

@@ -1,4 +1,5 @@
-//! A safe door to Mitrelilac's static library, which reads CodeView symbol streams and says which scopes a record belongs to.
+//! A safe door to Mitrelilac's static library, which reads CodeView symbol streams, says which scopes a record belongs to, and reads the
+//! line programs of inlined code.
 //! Slices go in, enums and structs come out, nothing is allocated. `include/mitrelilac.h` is the manual.
 //!
 //! ```

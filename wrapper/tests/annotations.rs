@@ -103,8 +103,11 @@ fn a_refusal_ends_the_instructions() {
     let read: Vec<_> = BinaryAnnotations::new(b"\x03\x01\x0e\x03\x01")
         .iter()
         .collect();
-    assert_eq!(read.len(), 2);
-    assert_eq!(read[0], Ok(ChangeCodeOffset(1)));
+    let unknown = Refusal {
+        reason: Reason::UnknownBinaryAnnotation(14),
+        position: 0,
+    };
+    assert_eq!(read, [Ok(ChangeCodeOffset(1)), Err(unknown)]);
 }
 
 #[test]

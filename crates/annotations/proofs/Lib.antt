@@ -1,3 +1,3 @@
 pub mod Numbers
-pub mod Moves
+pub mod Instructions
 pub mod Program

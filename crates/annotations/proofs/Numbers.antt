@@ -1,9 +1,10 @@
 -- Laws of compressed numbers.
 -- Assumes nothing.
-use Rattle.std.proofs.Common.{ℕ, zero, suc, ◌+◌, ◌/◌, ◌<◌, ◌≤◌, ◌≡◌, ◌∙◌, refl, arith, List, ◌++◌, length, get_or, Ok}
+use Rattle.std.proofs.Common.{ℕ, ◌+◌, ◌/◌, ◌<◌, ◌≤◌, ◌≡◌, ◌∙◌, arith, List, ◌++◌, length, get_or, Ok}
 use Rattle.std.proofs.lemmas.Grind.{common_steps}
 use Rattle.std.proofs.lemmas.List.{get_or-append-add}
 use Rattle.common.specs.Bytes.{be}
+use Rattle.common.proofs.Bytes.{be_behind}
 use Rattle.annotations.specs.Compressed.{Width, one_byte, two_bytes, four_bytes, size, limit, compress, compressed}
 
 -- A number that is read is below 2 ^ 29, and is read from bytes that are there.
@@ -15,12 +16,6 @@ pub record Compressed (s : List ℕ) (at x next : ℕ) : Type 0 where
 pub is_compressed : (s : List ℕ) (at x next : ℕ) → compressed s at ≡ Ok (x, next) → Compressed s at x next
 unfolding compressed
 is_compressed s at x next e = record { below = grind (arith, common_steps); moves = grind (arith, common_steps); within = grind (arith, common_steps) }
-
--- what stands behind some bytes does not depend on them
-be_behind : (n : ℕ) (before s : List ℕ) (at : ℕ) → be n (before ++ s) (length before + at) ≡ be n s at
-unfolding be
-be_behind zero before s at = refl
-be_behind (suc n) before s at = grind (arith, get_or-append-add before s at 0, be_behind n before s (suc at))
 
 -- each number of each width is read back, whatever stands before and behind its bytes
 pub read_back : (w : Width) (x : ℕ) (before after : List ℕ) → x < limit w →

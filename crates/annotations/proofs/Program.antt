@@ -6,7 +6,7 @@ use Rattle.common.proofs.Later.{unroll}
 use Rattle.annotations.specs.Annotation.{annotation, MovesOn}
 use Rattle.annotations.specs.Program.{Program, more, on_next, program_from, program_of}
 use Rattle.annotations.specs.declared.BinaryAnnotation.{BinaryAnnotation}
-use Rattle.annotations.proofs.Moves.{moves_on}
+use Rattle.annotations.proofs.Instructions.{moves_on}
 
 module _ (s : List ℕ) where
   -- an instruction's next position is behind it, so that the program goes on at later positions alone

@@ -9,18 +9,18 @@ use Rattle.annotations.specs.declared.BinaryAnnotation.TheVariants.{CodeOffset, 
 
 -- an instruction of one operand
 abbrev pub one : (ℕ → BinaryAnnotation) → Reader (Option BinaryAnnotation)
-one instruction = do
+one make = do
   operand ← compressed
-  done (Some (instruction operand))
+  done (Some (make operand))
 
 -- one of two
 abbrev pub two : (ℕ → ℕ → BinaryAnnotation) → Reader (Option BinaryAnnotation)
-two instruction = do
+two make = do
   first ← compressed
   second ← compressed
-  done (Some (instruction first second))
+  done (Some (make first second))
 
--- the operands of a code; code 0 ends the instructions, and 16 is for one that there is not
+-- The operands of a code. Code 0 ends the instructions; 16, with the code, where no instruction has it.
 unfoldable pub operands : ℕ → Reader (Option BinaryAnnotation)
 operands code =
     cond (eqb code 0) (done None)
@@ -47,16 +47,32 @@ instruction = do
 -- what was read, with the position after it
 abbrev pub found : Read (Option BinaryAnnotation) → Result (Option (BinaryAnnotation × ℕ)) Refusal
 found (Ok (None, next)) = Ok None
-found (Ok (Some instruction, next)) = Ok (Some (instruction, next))
+found (Ok (Some x, next)) = Ok (Some (x, next))
 found (Err e) = Err e
 
 -- the next instruction from a position, and the position after it; none at or past the end
 unfoldable pub annotation : List ℕ → ℕ → Result (Option (BinaryAnnotation × ℕ)) Refusal
 annotation s at = cond (ltb at (length s)) (found (instruction s at)) (Ok None)
 
--- An instruction that is answered moves on, and stays within the bytes: a law of `annotation` (`moves_on` of proofs/Moves.antt).
+-- An instruction that is answered moves on, and stays within the bytes: a law of `annotation` (`moves_on` of proofs/Instructions.antt).
 abbrev pub MovesOn : List ℕ → ℕ → Result (Option (BinaryAnnotation × ℕ)) Refusal → Type 0
 MovesOn s at r = IfOk r (λ o. IfSome o (λ x. (at < x.1) × (x.1 ≤ length s)))
+
+-- the code of an instruction; that it is the one by which it was read is the law `code_read` of proofs/Instructions.antt
+abbrev pub code_of : BinaryAnnotation → ℕ
+code_of (CodeOffset _) = 1
+code_of (ChangeCodeOffsetBase _) = 2
+code_of (ChangeCodeOffset _) = 3
+code_of (ChangeCodeLength _) = 4
+code_of (ChangeFile _) = 5
+code_of (ChangeLineOffset _) = 6
+code_of (ChangeLineEndDelta _) = 7
+code_of (ChangeRangeKind _) = 8
+code_of (ChangeColumnStart _) = 9
+code_of (ChangeColumnEndDelta _) = 10
+code_of (ChangeCodeOffsetAndLineOffset _ _) = 11
+code_of (ChangeCodeLengthAndCodeOffset _ _) = 12
+code_of (ChangeColumnEnd _) = 13
 
 -- the instructions that emit a line record
 abbrev pub emits_line_info : BinaryAnnotation → Bool

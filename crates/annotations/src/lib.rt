@@ -5,7 +5,7 @@ pub mod compressed;
 
 ghost use Rattle.std.specs.Prelude.{◌≡◌};
 ghost use Rattle.common.specs.Buffer.{Reads};
-ghost use Rattle.annotations.specs.Annotation.{operands, annotation, MovesOn, emits_line_info};
+ghost use Rattle.annotations.specs.Annotation.{operands, annotation, MovesOn, code_of, emits_line_info};
 
 use common::Refusal;
 use common::buffer::ParseBuffer;
@@ -61,6 +61,27 @@ pub enum BinaryAnnotation {
 }
 
 impl BinaryAnnotation {
+    /// Its code.
+    pub fn code(self) -> u8
+        ensures { result ≡ code_of self }
+    {
+        match self {
+            BinaryAnnotation::CodeOffset(_) => 1,
+            BinaryAnnotation::ChangeCodeOffsetBase(_) => 2,
+            BinaryAnnotation::ChangeCodeOffset(_) => 3,
+            BinaryAnnotation::ChangeCodeLength(_) => 4,
+            BinaryAnnotation::ChangeFile(_) => 5,
+            BinaryAnnotation::ChangeLineOffset(_) => 6,
+            BinaryAnnotation::ChangeLineEndDelta(_) => 7,
+            BinaryAnnotation::ChangeRangeKind(_) => 8,
+            BinaryAnnotation::ChangeColumnStart(_) => 9,
+            BinaryAnnotation::ChangeColumnEndDelta(_) => 10,
+            BinaryAnnotation::ChangeCodeOffsetAndLineOffset(_, _) => 11,
+            BinaryAnnotation::ChangeCodeLengthAndCodeOffset(_, _) => 12,
+            BinaryAnnotation::ChangeColumnEnd(_) => 13,
+        }
+    }
+
     /// Whether it emits a line record.
     pub fn emits_line_info(self) -> bool
         ensures { result ≡ emits_line_info self }
@@ -108,7 +129,7 @@ fn parse_operands(buf: &mut ParseBuffer, code: u32) -> Result<Option<BinaryAnnot
 }
 
 /// The next instruction from a position, and the position after it. None at or past the end, and where code 0 ends the instructions.
-#[tactic(auto, using(crate::proofs::Moves::moves_on), unfolding(crate::specs::Annotation::annotation))]
+#[tactic(auto, using(crate::proofs::Instructions::moves_on), unfolding(crate::specs::Annotation::annotation))]
 pub fn annotation(
     bytes: &[u8],
     position: usize,

@@ -1,2 +1,3 @@
+pub mod Bytes
 pub mod Later
 pub mod Numbers

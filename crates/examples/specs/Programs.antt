@@ -14,13 +14,13 @@ reading : Unit {0}
 unfolding program_of program_from annotation operands compressed be
 reading = tt
 
-abbrev Reads : List BinaryAnnotation → Option Refusal → Program
-Reads instructions refusal = record { instructions = instructions; refusal = refusal }
+abbrev program : List BinaryAnnotation → Option Refusal → Program
+program instructions refusal = record { instructions = instructions; refusal = refusal }
 
 first :
     program_of
     (0x0B ∷ 0x03 ∷ 0x06 ∷ 0x0A ∷ 0x03 ∷ 0x08 ∷ 0x06 ∷ 0x06 ∷ 0x03 ∷ 0x2D ∷ 0x06 ∷ 0x08 ∷ 0x03 ∷ 0x07 ∷ 0x0B ∷ 0x72 ∷ 0x06 ∷ 0x06 ∷ 0x0C ∷ 0x03 ∷ 0x07 ∷ 0x06 ∷ 0x0F ∷ 0x0C ∷ 0x06 ∷ 0x05 ∷ 0x00 ∷ 0x00 ∷ []) 0
-    ≡ Reads
+    ≡ program
     (ChangeCodeOffsetAndLineOffset 3 (pos 0) ∷
     ChangeLineOffset (pos 5) ∷
     ChangeCodeOffset 8 ∷
@@ -40,7 +40,7 @@ first = refl
 second :
     program_of
     (0x03 ∷ 0x50 ∷ 0x06 ∷ 0x0E ∷ 0x03 ∷ 0x0C ∷ 0x06 ∷ 0x04 ∷ 0x03 ∷ 0x32 ∷ 0x06 ∷ 0x06 ∷ 0x03 ∷ 0x54 ∷ 0x0B ∷ 0x23 ∷ 0x0B ∷ 0x5C ∷ 0x0B ∷ 0x43 ∷ 0x0B ∷ 0x2F ∷ 0x06 ∷ 0x04 ∷ 0x0C ∷ 0x2D ∷ 0x09 ∷ 0x03 ∷ 0x3B ∷ 0x06 ∷ 0x1D ∷ 0x0C ∷ 0x05 ∷ 0x06 ∷ 0x00 ∷ 0x00 ∷ []) 0
-    ≡ Reads
+    ≡ program
     (ChangeCodeOffset 80 ∷
     ChangeLineOffset (pos 7) ∷
     ChangeCodeOffset 12 ∷
@@ -62,7 +62,7 @@ unfolding reading
 second = refl
 
 -- the operand of the second instruction is cut off: 15, at 3
-cut_off : program_of (0x03 ∷ 0x01 ∷ 0x03 ∷ 0xC0 ∷ 0x01 ∷ []) 0 ≡ Reads (ChangeCodeOffset 1 ∷ []) (Some (InvalidCompressedAnnotation 3))
+cut_off : program_of (0x03 ∷ 0x01 ∷ 0x03 ∷ 0xC0 ∷ 0x01 ∷ []) 0 ≡ program (ChangeCodeOffset 1 ∷ []) (Some (InvalidCompressedAnnotation 3))
 unfolding reading
 cut_off = refl
 

@@ -3,6 +3,7 @@ use Rattle.std.specs.Prelude.{ℕ, List, [], ◌∷◌, length, Option, None, So
 use Rattle.common.specs.Reader.{Read}
 use Rattle.common.specs.declared.Refusal.{Refusal}
 use Rattle.constants.specs.Kind.{starts_scope, ends_scope}
+use Rattle.annotations.specs.Annotation.{code_of}
 use Rattle.annotations.specs.declared.BinaryAnnotation.{BinaryAnnotation}
 use Rattle.annotations.specs.declared.BinaryAnnotation.TheVariants as A
 use Rattle.names.specs.declared.Part.{Part}
@@ -46,29 +47,29 @@ name_reply = reply_by name_words
 abbrev pub entry_reply : Result RegisterEntry Refusal → Reply
 entry_reply = reply_by (λ x. x.register ∷ x.name.start ∷ x.name.len ∷ [])
 
--- an instruction's code (BinaryAnnotationOpcode of cvinfo.h) and its operands, 0 where there is none
-abbrev pub annotation_words : BinaryAnnotation → ℕ × ℕ × ℕ
-annotation_words (A.CodeOffset x) = (1, x, 0)
-annotation_words (A.ChangeCodeOffsetBase x) = (2, x, 0)
-annotation_words (A.ChangeCodeOffset x) = (3, x, 0)
-annotation_words (A.ChangeCodeLength x) = (4, x, 0)
-annotation_words (A.ChangeFile x) = (5, x, 0)
-annotation_words (A.ChangeLineOffset z) = (6, signed_word z, 0)
-annotation_words (A.ChangeLineEndDelta x) = (7, x, 0)
-annotation_words (A.ChangeRangeKind x) = (8, x, 0)
-annotation_words (A.ChangeColumnStart x) = (9, x, 0)
-annotation_words (A.ChangeColumnEndDelta z) = (10, signed_word z, 0)
-annotation_words (A.ChangeCodeOffsetAndLineOffset x z) = (11, x, signed_word z)
-annotation_words (A.ChangeCodeLengthAndCodeOffset x y) = (12, x, y)
-annotation_words (A.ChangeColumnEnd x) = (13, x, 0)
+-- the operands of an instruction, 0 where there is no second one
+abbrev pub operand_words : BinaryAnnotation → ℕ × ℕ
+operand_words (A.CodeOffset x) = (x, 0)
+operand_words (A.ChangeCodeOffsetBase x) = (x, 0)
+operand_words (A.ChangeCodeOffset x) = (x, 0)
+operand_words (A.ChangeCodeLength x) = (x, 0)
+operand_words (A.ChangeFile x) = (x, 0)
+operand_words (A.ChangeLineOffset z) = (signed_word z, 0)
+operand_words (A.ChangeLineEndDelta x) = (x, 0)
+operand_words (A.ChangeRangeKind x) = (x, 0)
+operand_words (A.ChangeColumnStart x) = (x, 0)
+operand_words (A.ChangeColumnEndDelta z) = (signed_word z, 0)
+operand_words (A.ChangeCodeOffsetAndLineOffset x z) = (x, signed_word z)
+operand_words (A.ChangeCodeLengthAndCodeOffset x y) = (x, y)
+operand_words (A.ChangeColumnEnd x) = (x, 0)
 
 -- Annotation (document 02, M-100): "to the next instruction and position, or done"
-abbrev pub instruction_words : Option (BinaryAnnotation × ℕ) → List ℕ
-instruction_words (Some r) = let words = annotation_words r.0 in 1 ∷ words.0 ∷ words.1 ∷ words.2 ∷ r.1 ∷ []
-instruction_words None = 0 ∷ []
+abbrev pub annotation_words : Option (BinaryAnnotation × ℕ) → List ℕ
+annotation_words (Some r) = let operands = operand_words r.0 in 1 ∷ code_of r.0 ∷ operands.0 ∷ operands.1 ∷ r.1 ∷ []
+annotation_words None = 0 ∷ []
 
 abbrev pub annotation_reply : Result (Option (BinaryAnnotation × ℕ)) Refusal → Reply
-annotation_reply = reply_by instruction_words
+annotation_reply = reply_by annotation_words
 
 -- Check: records yielded and their bytes, fillers and theirs, openers, deepest nesting
 abbrev pub check_reply : Result Counts Refusal → Reply

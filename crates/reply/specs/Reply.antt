@@ -17,7 +17,7 @@ pub record Replied (reply : Reply) (returned : ℕ) (before after : List ℕ) : 
 abbrev pub answers : List ℕ → Reply
 answers words = record { number = 0; words = words }
 
--- A refusal carries its number, its position (0 where none is said), for 3 the kind, for 4 the prefix, and no more.
+-- A refusal carries its number, its position (0 where none is said), for 3 the kind, for 4 the prefix, for 16 the code, and no more.
 abbrev pub refusal_reply : Refusal → Reply
 refusal_reply e = record { number = refusal_number e; words = refusal_position e ∷ refusal_detail e ∷ [] }
 
