@@ -481,8 +481,8 @@ uint32_t mitrelilac_annotation(const uint8_t *annotations, size_t length, size_t
 
 /*
  * The instructions. Those marked * emit a line record, from the offset and the line that the ones up to them say; how much code a record
- * covers, its code length says, or else the offset of the next one. Operands are below 0x20000000, signed ones between -0x10000000 and
- * 0x10000000.
+ * covers, its code length says, or else the offset of the next one. (A code length moves the code offset too, as clang writes it and
+ * llvm-pdbutil reads it.) Operands are below 0x20000000, signed ones between -0x10000000 and 0x10000000.
  */
 enum mitrelilac_annotation_code {
     MITRELILAC_ANNOTATION_CODE_OFFSET = 1,                             /* the code offset */
