@@ -1,6 +1,6 @@
 -- A step that answers an instruction moves on and stays within the bytes, and the instruction has the code that was read.
 -- Assumes nothing.
-use Rattle.std.proofs.Common.{ℕ, ◌<◌, ◌≤◌, ◌≡◌, refl, sym, arith, List, length, Bool, true, false, cond, eqb, ltb, Option, None, Some, Result, Ok, Err, IfOk, IfSome}
+use Rattle.std.proofs.Common.{ℕ, ◌<◌, ◌≤◌, ◌≡◌, refl, arith, List, length, Bool, true, false, cond, eqb, ltb, Option, None, Some, Result, Ok, Err, IfOk, IfSome}
 use Rattle.std.proofs.lemmas.Bool.{eqb-true}
 use Rattle.common.specs.Reader.{Read, Reader, next, done, refuse}
 use Rattle.common.specs.declared.Refusal.{Refusal}

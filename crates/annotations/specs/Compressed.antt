@@ -26,6 +26,7 @@ limit four_bytes = 0x20000000
 abbrev pub invalid : Reader ℕ
 invalid s at = Err (InvalidCompressedAnnotation at)
 
+-- a number of a width: what its bytes hold below the limit, or 15 where they are cut off
 abbrev pub of_width : Width → Reader ℕ
 of_width w s at = cond (leb (at + size w) (length s)) (Ok (be (size w) s at % limit w, at + size w)) (invalid s at)
 

@@ -1,4 +1,4 @@
--- The reply to each answer of the operations of document 01.
+-- The reply to each answer of the operations of documents 01 and 02.
 use Rattle.std.specs.Prelude.{ℕ, List, [], ◌∷◌, length, Option, None, Some, Result}
 use Rattle.common.specs.Reader.{Read}
 use Rattle.common.specs.declared.Refusal.{Refusal}
