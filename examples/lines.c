@@ -1,7 +1,6 @@
 /*
  * Prints the line program of the inline site at a position, an instruction a line: its bytes, and which code and which line of the
- * inlined function it leads to. Those that clang writes are printed as `llvm-pdbutil dump -symbols` prints them; a code length moves the
- * code offset, as it does there.
+ * inlined function it leads to. Those that clang writes are printed as `llvm-pdbutil dump -symbols` prints them.
  *
  *     lines FILE POSITION
  */

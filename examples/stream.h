@@ -36,7 +36,8 @@ static const char *const reasons[] = {
 static void refused(const char *what, uint32_t number, const uint64_t *out)
 {
     fprintf(stderr, "%s: %s (%" PRIu32 ")", what, reasons[number], number);
-    if (out[0])
+    /* Annotations start at 0, where a number may be cut off as anywhere; else a position of 0 is none. */
+    if (out[0] || number == MITRELILAC_INVALID_COMPRESSED_ANNOTATION)
         fprintf(stderr, ", at %" PRIu64, out[0]);
     fputc('\n', stderr);
     exit(1);

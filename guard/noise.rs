@@ -1,21 +1,11 @@
 //! Questions of no form: random bytes for every operation, and records of the real example with bytes changed or cut off.
 
-use std::sync::LazyLock;
-
 use crate::answer::Op;
 use crate::library::OPS;
 use crate::list::Question;
 use crate::random::Random;
-use crate::reading::{step, symbols_from};
+use crate::scopes::REAL_RECORDS;
 use crate::steps;
-
-static REAL: LazyLock<Vec<Vec<u8>>> = LazyLock::new(|| {
-    let mut symbols = symbols_from(include_bytes!("../examples/nested.sym"), 4);
-    let next = || step(&mut symbols).ok().flatten();
-    std::iter::from_fn(next)
-        .map(|symbol| symbol.raw_bytes().to_vec())
-        .collect()
-});
 
 pub fn question(random: &mut Random) -> Question {
     let (op, _) = random.pick(&OPS);
@@ -41,7 +31,7 @@ pub fn question(random: &mut Random) -> Question {
 }
 
 fn real_record(random: &mut Random) -> Vec<u8> {
-    let mut record = REAL[random.below(REAL.len())].clone();
+    let mut record = random.pick(&REAL_RECORDS).to_vec();
     for _ in 0..random.below(4) {
         let place = random.below(record.len());
         record[place] = random.number() as u8;

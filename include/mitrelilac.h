@@ -481,14 +481,14 @@ uint32_t mitrelilac_annotation(const uint8_t *annotations, size_t length, size_t
 
 /*
  * The instructions. Those marked * emit a line record, from the offset and the line that the ones up to them say; how much code a record
- * covers, its code length says, or else the offset of the next one. (A code length moves the code offset too, as clang writes it and
- * llvm-pdbutil reads it.) Operands are below 0x20000000, signed ones between -0x10000000 and 0x10000000.
+ * covers, its code length says, or else the offset of the next one. Operands are below 0x20000000, signed ones between -0x10000000 and
+ * 0x10000000.
  */
 enum mitrelilac_annotation_code {
     MITRELILAC_ANNOTATION_CODE_OFFSET = 1,                             /* the code offset */
     MITRELILAC_ANNOTATION_CHANGE_CODE_OFFSET_BASE = 2,                 /* the base of the code offsets that follow */
     MITRELILAC_ANNOTATION_CHANGE_CODE_OFFSET = 3,                      /* * by how much the code offset grows */
-    MITRELILAC_ANNOTATION_CHANGE_CODE_LENGTH = 4,                      /* the code length of the last line record */
+    MITRELILAC_ANNOTATION_CHANGE_CODE_LENGTH = 4,                      /* the code length of the last line record, behind which the code offset is then */
     MITRELILAC_ANNOTATION_CHANGE_FILE = 5,                             /* the file of the line records that follow */
     MITRELILAC_ANNOTATION_CHANGE_LINE_OFFSET = 6,                      /* by how much the line grows (signed) */
     MITRELILAC_ANNOTATION_CHANGE_LINE_END_DELTA = 7,                   /* how many lines a record covers; 1 if it is not set */

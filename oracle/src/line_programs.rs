@@ -5,7 +5,8 @@ use std::sync::LazyLock;
 use crate::answer::Op;
 use crate::list::Question;
 use crate::random::Random;
-use crate::reading::{decode, step, symbols_from};
+use crate::reading::decode;
+use crate::scopes::REAL_RECORDS;
 use crate::steps;
 use crate::symbol::*;
 
@@ -105,21 +106,18 @@ pub fn brief() -> impl Iterator<Item = Question> {
 }
 
 /// The annotations of every inline site of the real example.
-static SITES: LazyLock<Vec<Vec<u8>>> = LazyLock::new(|| {
-    let mut symbols = symbols_from(include_bytes!("../../examples/nested.sym"), 4);
-    let next = || step(&mut symbols).ok().flatten();
-    std::iter::from_fn(next)
-        .filter_map(|symbol| match decode(symbol.raw_bytes()) {
-            Ok((SymbolData::InlineSite(site), _)) => Some(site.annotations.data().to_vec()),
-            _ => None,
-        })
-        .collect()
+static SITES: LazyLock<Vec<&[u8]>> = LazyLock::new(|| {
+    let annotations = |record: &&'static [u8]| match decode(record) {
+        Ok((SymbolData::InlineSite(site), _)) => Some(site.annotations.data()),
+        _ => None,
+    };
+    REAL_RECORDS.iter().filter_map(annotations).collect()
 });
 
 /// These, from every position.
 pub fn sites() -> impl Iterator<Item = Question> {
-    let everywhere = |bytes: &'static Vec<u8>| (0..=bytes.len() + 1).map(move |at| ask(at, bytes));
-    SITES.iter().flat_map(everywhere)
+    let everywhere = |bytes: &'static [u8]| (0..=bytes.len() + 1).map(move |at| ask(at, bytes));
+    SITES.iter().copied().flat_map(everywhere)
 }
 
 pub fn question(random: &mut Random) -> Question {
@@ -139,8 +137,8 @@ pub fn question(random: &mut Random) -> Question {
 /// Instructions, and where they start; at times those of a real site, which start anywhere.
 fn program(random: &mut Random) -> (Vec<u8>, Vec<usize>) {
     if random.one_in(16) {
-        let site = &SITES[random.below(SITES.len())];
-        return (site.clone(), (0..site.len()).collect());
+        let site = random.pick(&SITES);
+        return (site.to_vec(), (0..site.len()).collect());
     }
     let mut bytes = Vec::new();
     let mut starts = vec![0];

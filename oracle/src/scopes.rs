@@ -6,6 +6,7 @@ use std::sync::LazyLock;
 use crate::answer::{class, Op};
 use crate::list::Question;
 use crate::random::Random;
+use crate::reading::{step, symbols_from};
 use crate::symbol::*;
 use crate::{records, steps};
 
@@ -34,6 +35,15 @@ static LINKED: LazyLock<Vec<u16>> = LazyLock::new(|| {
 });
 
 const REAL: &[u8] = include_bytes!("../../examples/nested.sym");
+
+/// The records of the real example.
+pub static REAL_RECORDS: LazyLock<Vec<&[u8]>> = LazyLock::new(|| {
+    let mut symbols = symbols_from(REAL, 4);
+    let next = || step(&mut symbols).ok().flatten();
+    iter::from_fn(next)
+        .map(|symbol| symbol.raw_bytes())
+        .collect()
+});
 
 /// A stream, where its records start, the fillers and the stream's end included, and which of
 /// them open a scope.

@@ -11,7 +11,7 @@ pub enum BinaryAnnotation {
     ChangeCodeOffsetBase(u32),
     /// **Emitting**: by how much the code offset grows.
     ChangeCodeOffset(u32),
-    /// The code length of the last line record.
+    /// The code length of the last line record, behind which the code offset is then.
     ChangeCodeLength(u32),
     /// The file of the line records that follow.
     ChangeFile(u32),

@@ -86,9 +86,11 @@ impl fmt::Display for Refusal {
                 write!(f, "no instruction has the code {code}")
             }
         }?;
-        match self.position {
-            0 => Ok(()),
-            position => write!(f, ", at {position}"),
+        match (self.reason, self.position) {
+            // Annotations start at 0, where a number may be cut off as anywhere.
+            (Reason::InvalidCompressedAnnotation, position) => write!(f, ", at {position}"),
+            (_, 0) => Ok(()),
+            (_, position) => write!(f, ", at {position}"),
         }
     }
 }

@@ -93,6 +93,10 @@ fn refusals() {
     ] {
         assert_eq!(program(bytes), Err(refusal));
     }
+    assert_eq!(
+        invalid(0).to_string(),
+        "a compressed number is cut off or malformed, at 0"
+    );
     assert_eq!(annotation(b"\x03\x01", 2), Ok(None));
     assert_eq!(annotation(b"\x03\x01", usize::MAX), Ok(None));
     assert_eq!(annotation(b"\0\x03\x01", 0), Ok(None));

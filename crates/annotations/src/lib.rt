@@ -25,7 +25,8 @@ pub enum BinaryAnnotation {
     /// How much code the line record covers may be told by a following `ChangeCodeLength`, or by the offset of the next line record.
     ChangeCodeOffset(u32),
 
-    /// Adjusts the code length of the line record that was emitted last. The code length resets with every line record.
+    /// Adjusts the code length of the line record that was emitted last, behind which the code offset then is. The code length resets with
+    /// every line record.
     ChangeCodeLength(u32),
 
     /// Sets the file index of following line records.

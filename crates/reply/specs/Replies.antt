@@ -47,7 +47,7 @@ name_reply = reply_by name_words
 abbrev pub entry_reply : Result RegisterEntry Refusal → Reply
 entry_reply = reply_by (λ x. x.register ∷ x.name.start ∷ x.name.len ∷ [])
 
--- the operands of an instruction, 0 where there is no second one
+-- the operands of an instruction, signed ones in two's complement; 0 where there is no second one
 abbrev pub operand_words : BinaryAnnotation → ℕ × ℕ
 operand_words (A.CodeOffset x) = (x, 0)
 operand_words (A.ChangeCodeOffsetBase x) = (x, 0)
