@@ -488,7 +488,7 @@ enum mitrelilac_annotation_code {
     MITRELILAC_ANNOTATION_CODE_OFFSET = 1,                             /* the code offset */
     MITRELILAC_ANNOTATION_CHANGE_CODE_OFFSET_BASE = 2,                 /* the base of the code offsets that follow */
     MITRELILAC_ANNOTATION_CHANGE_CODE_OFFSET = 3,                      /* * by how much the code offset grows */
-    MITRELILAC_ANNOTATION_CHANGE_CODE_LENGTH = 4,                      /* the code length of the last line record, behind which the code offset is then */
+    MITRELILAC_ANNOTATION_CHANGE_CODE_LENGTH = 4,                      /* the code length of the last line record; the offset is then behind it */
     MITRELILAC_ANNOTATION_CHANGE_FILE = 5,                             /* the file of the line records that follow */
     MITRELILAC_ANNOTATION_CHANGE_LINE_OFFSET = 6,                      /* by how much the line grows (signed) */
     MITRELILAC_ANNOTATION_CHANGE_LINE_END_DELTA = 7,                   /* how many lines a record covers; 1 if it is not set */
