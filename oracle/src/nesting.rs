@@ -1,4 +1,4 @@
-//! Document 01's check and finders, written plainly over pdb's iterator; pdb has none of them.
+//! The check and the finders of documents 01 and 02, written plainly over pdb's iterator; pdb has none of them.
 
 use std::cmp::Ordering;
 
@@ -62,6 +62,11 @@ impl Words for Found {
     }
 }
 
+/// Whether the check and the finders take it as an opener.
+pub fn opens(symbol: &Symbol) -> bool {
+    symbol.starts_scope() || symbol.raw_kind() == S_LPROC32_ID
+}
+
 struct Links {
     parent: u64,
     end: u64,
@@ -111,7 +116,7 @@ pub fn check(stream: &[u8], start: u64) -> Reading<Counts> {
         let Some(symbol) = symbol else { break };
         nest(&symbol, &mut open).map_err(|refusal| refusal.at(to))?;
         counts.yielded.add(1, symbols.pos() - to);
-        counts.openers += usize::from(symbol.starts_scope());
+        counts.openers += usize::from(opens(&symbol));
         counts.deepest = counts.deepest.max(open.len());
     }
     match open.last() {
@@ -135,7 +140,7 @@ fn records_in(stretch: &[u8]) -> Reading<usize> {
 fn nest(symbol: &Symbol, open: &mut Vec<(u64, u64)>) -> Reading<()> {
     let index = index(symbol);
     let innermost = open.last().copied();
-    if symbol.starts_scope() {
+    if opens(symbol) {
         let links = links(symbol).ok_or(Refusal::new(6))?;
         if index == 0 {
             return refuse(7);
@@ -157,7 +162,7 @@ fn nest(symbol: &Symbol, open: &mut Vec<(u64, u64)>) -> Reading<()> {
 
 pub fn walk(stream: &[u8], start: u64, i: u64) -> Reading<Found> {
     find(stream, start, i, |symbol, _, found| {
-        if symbol.starts_scope() {
+        if opens(symbol) {
             push(&mut found.chain, index(symbol))?;
         }
         if symbol.ends_scope() {
@@ -172,7 +177,7 @@ pub fn jump(stream: &[u8], start: u64, i: u64) -> Reading<Found> {
         if symbol.ends_scope() {
             return refuse(13);
         }
-        if symbol.starts_scope() {
+        if opens(symbol) {
             let end = links(symbol).ok_or(Refusal::new(13))?.end;
             if end < symbols.pos() as u64 {
                 return refuse(13);
@@ -239,5 +244,5 @@ pub fn climb(stream: &[u8], i: u64) -> Reading<Found> {
 /// The opener at exactly this position.
 fn opener_at(stream: &[u8], at: u64) -> Reading<Option<Symbol<'_>>> {
     let symbol = step(&mut symbols_from(stream, at))?;
-    Ok(symbol.filter(|symbol| index(symbol) == at && symbol.starts_scope()))
+    Ok(symbol.filter(|symbol| index(symbol) == at && opens(symbol)))
 }

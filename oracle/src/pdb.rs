@@ -34,8 +34,8 @@ pub mod symbol {
 
     pub use self::constants::{
         S_ALIGN, S_COMPILE3, S_END, S_GMANPROC, S_GPROC32_ID, S_INLINESITE, S_INLINESITE2,
-        S_INLINESITE_END, S_LPROC32_DPC_ID, S_MANYREG2, S_MANYREG2_ST, S_PROC_ID_END, S_SKIP,
-        S_ST_MAX,
+        S_INLINESITE_END, S_LPROC32_DPC_ID, S_LPROC32_ID, S_MANYREG2, S_MANYREG2_ST, S_PROC_ID_END,
+        S_SKIP, S_ST_MAX,
     };
 
     impl<'t> Symbol<'t> {

@@ -5,6 +5,7 @@ use std::sync::LazyLock;
 
 use crate::answer::{class, Op};
 use crate::list::Question;
+use crate::nesting::opens;
 use crate::random::Random;
 use crate::reading::{step, symbols_from};
 use crate::symbol::*;
@@ -18,10 +19,10 @@ const END: usize = 6;
 
 const CLOSERS: [u16; 3] = [S_END, S_PROC_ID_END, S_INLINESITE_END];
 
-/// The kinds that open a scope, by pdb's own word.
+/// The kinds that open a scope.
 static OPENERS: LazyLock<Vec<u16>> = LazyLock::new(|| {
     (0..=u16::MAX)
-        .filter(|kind| Symbol::of(&kind.to_le_bytes()).starts_scope())
+        .filter(|kind| opens(&Symbol::of(&kind.to_le_bytes())))
         .collect()
 });
 
@@ -60,7 +61,7 @@ impl Stream {
         let mut at = start;
         while let Some(&length) = bytes.get(at..).and_then(|rest| rest.first_chunk()) {
             let next = at + 2 + usize::from(u16::from_le_bytes(length));
-            if Symbol::of(&bytes[at + 2..next]).starts_scope() {
+            if opens(&Symbol::of(&bytes[at + 2..next])) {
                 openers.push(at);
             }
             starts.push(next);
@@ -116,7 +117,7 @@ fn link(records: &mut [Vec<u8>], first: usize) {
     let mut at = first;
     for place in 0..records.len() {
         let symbol = Symbol::of(&records[place]);
-        if symbol.starts_scope() {
+        if opens(&symbol) {
             let parent = open.last().map_or(0, |&(_, opener)| opener);
             open.push((place, at));
             put(&mut records[place], PARENT, parent);
@@ -217,7 +218,7 @@ fn nested(random: &mut Random) -> Vec<Vec<u8>> {
     for _ in 0..random.below(12) {
         match random.below(8) {
             0..=2 => {
-                let kind = random.pick(&LINKED);
+                let kind = opener(&LINKED, random);
                 records.push(records::well_formed(kind, random));
                 open.push(kind);
             }
@@ -225,24 +226,38 @@ fn nested(random: &mut Random) -> Vec<Vec<u8>> {
             _ => records.push(neither(random)),
         }
     }
-    let left = open.into_iter().rev();
-    records.extend(left.map(|kind| closer(kind, random)));
+    records.extend(closers(open, random));
     records
 }
 
 /// Scopes within one another, other records and closed scopes among them.
 fn tower(depth: usize, random: &mut Random) -> Vec<Vec<u8>> {
     let mut records = Vec::new();
+    let mut open = Vec::new();
     for _ in 0..depth {
         if random.one_in(16) {
             records.push(neither(random));
             records.push(site());
             records.push(closer(S_INLINESITE, random));
         }
-        records.push(site());
+        let kind = opener(&[S_INLINESITE], random);
+        records.push(match kind {
+            S_INLINESITE => site(),
+            _ => records::well_formed(kind, random),
+        });
+        open.push(kind);
     }
-    records.extend(iter::repeat_with(|| closer(S_INLINESITE, random)).take(depth));
+    records.extend(closers(open, random));
     records
+}
+
+/// The kind of an opener: in a fifth of the scopes S_LPROC32_ID, else one of these.
+fn opener(others: &[u16], random: &mut Random) -> u16 {
+    if random.one_in(5) {
+        S_LPROC32_ID
+    } else {
+        random.pick(others)
+    }
 }
 
 /// The shortest record that opens a scope.
@@ -250,12 +265,18 @@ fn site() -> Vec<u8> {
     [&S_INLINESITE.to_le_bytes()[..], &[0; 12]].concat()
 }
 
+/// The closers of openers that are left open.
+fn closers(open: Vec<u16>, random: &mut Random) -> impl Iterator<Item = Vec<u8>> + '_ {
+    let innermost_first = open.into_iter().rev();
+    innermost_first.map(|kind| closer(kind, random))
+}
+
 /// The closer that belongs to an opener, at times another.
 fn closer(opener: u16, random: &mut Random) -> Vec<u8> {
     let kind = match opener {
         _ if random.one_in(8) => random.pick(&CLOSERS),
         S_INLINESITE | S_INLINESITE2 => S_INLINESITE_END,
-        S_GPROC32_ID | S_LPROC32_DPC_ID => S_PROC_ID_END,
+        S_GPROC32_ID | S_LPROC32_ID | S_LPROC32_DPC_ID => S_PROC_ID_END,
         _ => S_END,
     };
     let ignored = random.pick(&[0, 0, 0, 3]);
@@ -266,7 +287,7 @@ fn closer(opener: u16, random: &mut Random) -> Vec<u8> {
 fn neither(random: &mut Random) -> Vec<u8> {
     let record = steps::record(random);
     let symbol = Symbol::of(&record);
-    if symbol.starts_scope() || symbol.ends_scope() {
+    if opens(&symbol) || symbol.ends_scope() {
         return neither(random);
     }
     record

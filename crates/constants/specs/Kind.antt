@@ -139,9 +139,10 @@ starts_scope k = opens (role_of k)
 unfoldable pub ends_scope : ℕ → Bool
 ends_scope k = closes (role_of k)
 
--- the rule by which the nesting check and the finders take a record as opener or closer
+-- the rule by which the nesting check and the finders take a record as opener or closer: they take S_LPROC32_ID (0x1146) as an opener too
+-- (document 02, M-101)
 unfoldable pub nesting_role : ℕ → Role
-nesting_role k = role_of k
+nesting_role k = cond (eqb k 0x1146) Opens (role_of k)
 
 -- Kinds S_ALIGN (0x0402) and S_SKIP (0x0007) are passed over by a step.
 abbrev pub is_filler : ℕ → Bool

@@ -15,7 +15,7 @@ pub fn raw_kind(s: &[u8]) -> u16
     ParseBuffer::new(s).parse().unwrap_or(0)
 }
 
-/// Whether the record opens a scope.
+/// Whether the record opens a scope, to pdb. (To the check and the finders S_LPROC32_ID does too: `nesting_role`.)
 pub fn starts_scope(s: &[u8]) -> bool
     ensures { result ≡ starts_scope (raw_kind s.now) }
 {

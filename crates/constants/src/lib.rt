@@ -51,6 +51,9 @@ pub const S_GPROC32_ST: u16 = 0x100b;
 /// The same, with an item in place of its type.
 pub const S_GPROC32_ID: u16 = 0x1147;
 
+/// A procedure of one module, with an item in place of its type.
+pub const S_LPROC32_ID: u16 = 0x1146;
+
 /// A procedure of one module, called later (DPC).
 pub const S_LPROC32_DPC: u16 = 0x1155;
 
@@ -164,19 +167,22 @@ pub fn class_number(kind: u16) -> u8
     class_of(kind) as u8
 }
 
-/// Whether records of this kind open or close a scope.
+/// Whether records of this kind open or close a scope, to pdb.
 pub fn role_of(kind: u16) -> Role
     ensures { result ≡ role_of kind }
 {
     table::entry(kind).1
 }
 
-/// What the check and the finders take records of this kind for. (As `role_of` today; a request will move it apart.)
+/// What the nesting check and the finders take records of this kind for. S_LPROC32_ID is an opener to them, as in LLVM, but not in pdb.
 #[tactic(auto, unfolding(crate::specs::Kind::nesting_role))]
 pub fn nesting_role(kind: u16) -> Role
     ensures { result ≡ nesting_role kind }
 {
-    role_of(kind)
+    match kind {
+        S_LPROC32_ID => Role::Opens,
+        _ => role_of(kind),
+    }
 }
 
 /// Whether a step passes over records of this kind.

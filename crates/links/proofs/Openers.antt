@@ -6,7 +6,7 @@ use borrow.Author.Tests.{leb-true, eqb-true, le-ltb}
 use Rattle.common.specs.Bytes.{le}
 use Rattle.common.specs.Reader.{Read, Reader, done, next, number, runs_out}
 use Rattle.common.specs.declared.Refusal.TheVariants.{TooLong}
-use Rattle.constants.specs.Kind.{kinds, class, role, opens, class_of, class_number, role_of as kindRole, nesting_role}
+use Rattle.constants.specs.Kind.{kinds, class, role, opens, entry_of, class_of, class_number, role_of as kindRole, nesting_role}
 use Rattle.constants.specs.declared.Class.{Class}
 use Rattle.constants.specs.declared.Class.TheVariants.{Unknown, Procedure, InlineSite, Block, Thunk, SeparatedCode}
 use Rattle.constants.specs.declared.Role.TheVariants.{Opens}
@@ -104,10 +104,14 @@ opening_linked n kind s =
     by false false false false true = separated_code_linked s
     by false false false false false = tt
 
--- a kind that opens a scope is of such a class: one test over the list of kinds
+-- a kind that opens a scope is of such a class: one test over the list of kinds, and S_LPROC32_ID
 opens-class : (k : ℕ) → nesting_role k ≡ Opens → opening (class_number (class_of k)) ≡ class_of k
-unfolding nesting_role kindRole class_of kinds
-opens-class k h = rw h at (agree (λ e. cond (opens (role e)) (opening (class_number (class e))) (class e)) class k kinds refl refl)
+unfolding nesting_role kindRole class_of entry_of kinds
+opens-class k = by (eqb k 0x1146) refl
+  where
+    by : (b : Bool) → eqb k 0x1146 ≡ b → cond b Opens (kindRole k) ≡ Opens → opening (class_number (class_of k)) ≡ class_of k
+    by true e h = subst (λ (n : ℕ). opening (class_number (class_of n)) ≡ class_of n) (sym (eqb-true k 0x1146 e)) refl
+    by false e h = rw h at (agree (λ e. cond (opens (role e)) (opening (class_number (class e))) (class e)) class k kinds refl refl)
 
 -- decode answers a record that opens a scope with the link fields that stand at 2 and 6
 decode_linked : (s : List ℕ) → nesting_role_of s ≡ Opens → Linked s (decode s)

@@ -29,7 +29,7 @@ pub fn mitrelilac_step(stream: &[u8], position: usize, out: &mut [u64; 5]) -> u3
     reply::reply_step(iter::step(stream, position), out)
 }
 
-/// The kind of a record, 1 if it opens a scope, 1 if it closes one. Never refuses.
+/// The kind of a record, 1 if it opens a scope (to pdb, which leaves S_LPROC32_ID out), 1 if it closes one. Never refuses.
 pub fn mitrelilac_kind(rec: &[u8], out: &mut [u64; 3]) -> u32
     ensures { Replied (kind_reply (raw_kind rec.now)) result out.old out.new }
 {

@@ -28,7 +28,7 @@ pub extern "C" fn mitrelilac_step(stream: &[u8], position: usize, out: &mut [u64
     mitrelilac::mitrelilac_step(stream, position, out)
 }
 
-/// The kind of a record, 1 if it opens a scope, 1 if it closes one. Never refuses.
+/// The kind of a record, 1 if it opens a scope (to pdb, which leaves S_LPROC32_ID out), 1 if it closes one. Never refuses.
 #[unsafe(no_mangle)]
 pub extern "C" fn mitrelilac_kind(rec: &[u8], out: &mut [u64; 3]) -> u32
     ensures { Replied (kind_reply (raw_kind rec.now)) result out.old out.new }
