@@ -139,8 +139,8 @@ starts_scope k = opens (role_of k)
 unfoldable pub ends_scope : ℕ → Bool
 ends_scope k = closes (role_of k)
 
--- the rule by which the nesting check and the finders take a record as opener or closer: they take S_LPROC32_ID (0x1146) as an opener too
--- (document 02, M-101)
+-- What the nesting check and the finders take a record for. "Check and the three finders now take S_LPROC32_ID as an opener" (document 02,
+-- M-101): that is 0x1146.
 unfoldable pub nesting_role : ℕ → Role
 nesting_role k = cond (eqb k 0x1146) Opens (role_of k)
 

@@ -1,7 +1,7 @@
 // Asks the nesting check and the finders about one stream after another, and prints what they answer.
 //
-// A case on standard input is a letter that says what is asked, a position and the length of a stream, each of four bytes, and the stream,
-// which is read from 4.
+// A case on standard input is a letter (n nesting check, w walk, j jump, c climb), a position and the length of a stream, each of four
+// bytes, and the stream, which is read from 4.
 #![tactic(auto)]
 
 use chain::Found;
@@ -24,6 +24,7 @@ fn print_refusal(rt: &HostRuntime, e: Refusal) -> io::Result<()> {
 }
 
 fn print_counts(rt: &HostRuntime, counts: Result<Counts, Refusal>) -> io::Result<()> {
+    print!(rt; "check: ")?;
     match counts {
         Ok(n) => {
             print!(rt; "{} records of {} bytes, ", n.records, n.bytes)?;
@@ -34,7 +35,13 @@ fn print_counts(rt: &HostRuntime, counts: Result<Counts, Refusal>) -> io::Result
     }
 }
 
-fn print_found(rt: &HostRuntime, found: Result<Found, Refusal>) -> io::Result<()> {
+fn print_found(
+    rt: &HostRuntime,
+    finder: &str,
+    i: usize,
+    found: Result<Found, Refusal>,
+) -> io::Result<()> {
+    print!(rt; "{finder} {i}: ")?;
     match found {
         Ok(found) => {
             print!(rt; "count {}, chain", found.count)?;
@@ -50,22 +57,10 @@ fn print_found(rt: &HostRuntime, found: Result<Found, Refusal>) -> io::Result<()
 /// Prints what is asked, and the answer.
 fn answer(rt: &HostRuntime, asked: u8, i: usize, stream: &[u8]) -> io::Result<()> {
     match asked {
-        b'w' => {
-            print!(rt; "walk {i}: ")?;
-            print_found(rt, walk::walk(stream, START, i))
-        }
-        b'j' => {
-            print!(rt; "jump {i}: ")?;
-            print_found(rt, jump::jump(stream, START, i))
-        }
-        b'c' => {
-            print!(rt; "climb {i}: ")?;
-            print_found(rt, climb::climb(stream, i))
-        }
-        b'n' => {
-            print!(rt; "check: ")?;
-            print_counts(rt, check_nesting::check(stream, START))
-        }
+        b'n' => print_counts(rt, check_nesting::check(stream, START)),
+        b'w' => print_found(rt, "walk", i, walk::walk(stream, START, i)),
+        b'j' => print_found(rt, "jump", i, jump::jump(stream, START, i)),
+        b'c' => print_found(rt, "climb", i, climb::climb(stream, i)),
         _ => println!(rt; "not asked"),
     }
 }

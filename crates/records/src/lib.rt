@@ -109,8 +109,8 @@ pub struct PublicSymbol {
     pub name: Part,
 }
 
-/// A procedure, such as a function or a method; it opens a scope, S_LPROC32_ID to the check and the finders alone. S_LPROC32, S_LPROC32_ST,
-/// S_GPROC32, S_GPROC32_ST, S_LPROC32_DPC; S_LPROC32_ID, S_GPROC32_ID, S_LPROC32_DPC_ID, whose type is an id.
+/// A procedure, such as a function or a method; it opens a scope (S_LPROC32_ID to the check and the finders alone). S_LPROC32,
+/// S_LPROC32_ST, S_GPROC32, S_GPROC32_ST, S_LPROC32_DPC; S_LPROC32_ID, S_GPROC32_ID, S_LPROC32_DPC_ID, whose type is an id.
 #[derive(Clone, Copy, Debug, PartialEq, Eq)]
 pub struct ProcedureSymbol {
     /// Whether it is global: S_GPROC32, S_GPROC32_ST, S_GPROC32_ID.
