@@ -115,7 +115,8 @@ static void read_stream(struct stream *s)
             break;
         read_record(s, (struct record){ (uint32_t)out[2], (uint32_t)out[3] });
         mitrelilac_kind(s->bytes + out[2], out[3], kind);
-        if (kind[1] && depth++ == deepest) {
+        int opens = kind[1] || kind[0] == 0x1146; /* S_LPROC32_ID, as the check takes it */
+        if (opens && depth++ == deepest) {
             deepest = depth;
             s->deepest = out[1];
         }

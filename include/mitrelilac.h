@@ -18,9 +18,13 @@
  *
  * Fillers (kinds S_ALIGN 0x0402 and S_SKIP 0x0007) are passed over wherever records are read.
  *
- * A scope is opened by an opener (procedures, blocks, thunks, inline sites, ..; as in pdb not the local procedures by id, S_LPROC32_ID,
- * S_LPROCMIPS_ID and S_LPROCIA64_ID) and closed by a closer (S_END 0x0006, S_INLINESITE_END 0x114e, S_PROC_ID_END 0x114f). An opener's
- * parent field is the index of the opener around it, 0 if there is none, its end field the index of its closer.
+ * A scope is opened by an opener (procedures, blocks, thunks, inline sites, ..) and closed by a closer (S_END 0x0006, S_INLINESITE_END
+ * 0x114e, S_PROC_ID_END 0x114f). An opener's parent field is the index of the opener around it, 0 if there is none, its end field the
+ * index of its closer.
+ *
+ * S_LPROC32_ID (0x1146) is an opener to mitrelilac_check, mitrelilac_walk, mitrelilac_jump and mitrelilac_climb, but not to
+ * mitrelilac_kind, which answers as pdb does: who keeps a stack of scopes by mitrelilac_kind pushes at 0x1146 too. S_LPROCMIPS_ID
+ * (0x1148) and S_LPROCIA64_ID (0x114a) are openers to none of them.
  *
  *
  * RULES OF EVERY CALL
@@ -98,7 +102,7 @@ uint32_t mitrelilac_step(const uint8_t *stream, size_t length, size_t position, 
  * The kind of a record, and what it does to scopes. Never refuses; below 2 bytes the kind is 0.
  *
  *     out[0]  the kind
- *     out[1]  1 if it is an opener
+ *     out[1]  1 if it is an opener to pdb, to which 0x1146 is none (see above)
  *     out[2]  1 if it is a closer
  */
 uint32_t mitrelilac_kind(const uint8_t *record, size_t length, uint64_t out[MITRELILAC_WORDS(3)]);

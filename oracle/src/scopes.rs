@@ -19,7 +19,7 @@ const END: usize = 6;
 
 const CLOSERS: [u16; 3] = [S_END, S_PROC_ID_END, S_INLINESITE_END];
 
-/// The kinds that open a scope.
+/// The kinds that open a scope to the check and the finders.
 static OPENERS: LazyLock<Vec<u16>> = LazyLock::new(|| {
     (0..=u16::MAX)
         .filter(|kind| opens(&Symbol::of(&kind.to_le_bytes())))
@@ -251,7 +251,7 @@ fn tower(depth: usize, random: &mut Random) -> Vec<Vec<u8>> {
     records
 }
 
-/// The kind of an opener: in a fifth of the scopes S_LPROC32_ID, else one of these.
+/// The kind of an opener: one in five S_LPROC32_ID, else one of these.
 fn opener(others: &[u16], random: &mut Random) -> u16 {
     if random.one_in(5) {
         S_LPROC32_ID

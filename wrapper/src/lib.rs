@@ -133,6 +133,7 @@ pub fn records(stream: &[u8], start: usize) -> impl Iterator<Item = Result<Recor
 #[derive(Clone, Copy, Debug, PartialEq, Eq)]
 pub struct Kind {
     pub code: u16,
+    /// An opener to pdb. To the check and the finders S_LPROC32_ID (0x1146) is one too.
     pub opener: bool,
     pub closer: bool,
 }
