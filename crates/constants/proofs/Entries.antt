@@ -1,8 +1,7 @@
 -- Laws of the list of kinds and of the list of processors.
 -- Assumes nothing.
-use Rattle.std.proofs.Common.{◌≡◌, ℕ, ◌-◌, ◌<◌, ◌≤◌, arith, slice_index_or, List, [], ◌∷◌, Bool, true, false, cond, map, get_or, refl, eqb, eqb-true, ne_eqb, rules}
+use Rattle.std.proofs.Common.{◌≡◌, ℕ, ◌-◌, ◌<◌, ◌≤◌, arith, slice_index_or, List, [], ◌∷◌, Bool, true, false, cond, map, refl, eqb, ne_eqb}
 use Rattle.std.specs.List.{list_any}
-use Rattle.std.proofs.lemmas.Bool.{agree_below_at}
 use Rattle.constants.specs.Kind.{Entry, kind, kinds, kind_number, class_of, role_of, entry_of}
 use Rattle.constants.specs.Processor.{processors, cpu_type_of}
 use Rattle.constants.specs.declared.Class.{Class}
@@ -12,7 +11,6 @@ use Rattle.constants.specs.declared.Role.TheVariants.{Neither}
 use Rattle.std.proofs.lemmas.List.FromFn.{get_or-map-range_with_len}
 use Rattle.std.specs.List.{range_with_len}
 use Rattle.constants.specs.declared.table.TheConstants.{KINDS}
-use Rattle.constants.specs.declared.cpu_types.TheConstants.{CPU_TYPES}
 
 -- a number that is none of a list
 abbrev pub NoneOf : List ℕ → ℕ → Type 0
@@ -52,15 +50,25 @@ in_kinds k above below =
     rw kinds_is
     (get_or-map-range_with_len (λ n. (class_of n, role_of n)) 0x1000 352 (k - 0x1000) k (Unknown, Neither) (omega arith) (omega arith))
 
--- the table of processors, which antt compares with the list
-pub in_table : (k : ℕ) → k < 257 → get_or CPU_TYPES k 0 ≡ cpu_type_of k
-unfolding cpu_type_of processors
-in_table k h = eqb-true _ _ (agree_below_at (λ n. eqb (get_or CPU_TYPES n 0) (cpu_type_of n)) (λ n. true) 257 k refl h)
-
+-- A code that differs from each of the list of processors is unknown.
 any_none : (ns : List ℕ) (k : ℕ) → NoneOf ns k → list_any (eqb k) ns ≡ false
 any_none [] k h = refl
 any_none (n ∷ ns) k h = rw (ne_eqb k n h.0) (any_none ns k h.1)
 
-pub above : (k : ℕ) → 257 ≤ k → 0 ≡ cpu_type_of k
-unfolding cpu_type_of processors
-above k h = rw (any_none processors k (search rules))
+pub unknown_processor : (k : ℕ) → NoneOf processors k → cpu_type_of k ≡ 0
+unfolding cpu_type_of
+unknown_processor k h = rw (any_none processors k h)
+
+-- a number that lies in no gap of a rising list: neither below its first, nor between two neighbours, nor above its last
+abbrev pub InNoGap : List ℕ → ℕ → Type 0
+InNoGap [] k = ⊥
+InNoGap (n ∷ ns) k = (k < n → ⊥) × (n < k → InNoGap ns k)
+
+-- A code in no gap of that list is known. (So a range's bounds are enough, and which of its codes it is need not be asked.)
+any_in_no_gap : (ns : List ℕ) (k : ℕ) → InNoGap ns k → list_any (eqb k) ns ≡ true
+any_in_no_gap [] k h = absurd h
+any_in_no_gap (n ∷ ns) k h = grind (arith, any_in_no_gap ns k, h.0, h.1)
+
+pub known_processor : (k : ℕ) → InNoGap processors k → cpu_type_of k ≡ k
+unfolding cpu_type_of
+known_processor k h = rw (any_in_no_gap processors k h)

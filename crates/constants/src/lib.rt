@@ -3,7 +3,6 @@
 #![tactic(auto)]
 
 pub mod compiler;
-mod cpu_types;
 pub mod kind;
 mod table;
 
