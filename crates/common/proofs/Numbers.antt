@@ -3,7 +3,7 @@
 use Rattle.std.proofs.Common.{◌<◌, arith}
 use Rattle.common.specs.Refused.{refusal_number}
 use Rattle.common.specs.declared.Refusal.{Refusal}
-use Rattle.common.specs.declared.Refusal.TheVariants.{UnexpectedEof, SymbolTooShort, UnimplementedKind, UnexpectedNumericPrefix, TooLong, UnreadableOpener, OpenerAt0, WrongParent, TooDeep, NothingOpen, WrongEnd, LeftOpen, UnusableLink, NothingThere, InvalidCompressedAnnotation, UnknownBinaryAnnotation}
+use Rattle.common.specs.declared.Refusal.TheVariants.{UnexpectedEof, SymbolTooShort, UnimplementedKind, UnexpectedNumericPrefix, TooLong, UnreadableOpener, OpenerAt0, WrongParent, TooDeep, NothingOpen, WrongEnd, LeftOpen, UnusableLink, NothingThere, InvalidCompressedAnnotation, UnknownBinaryAnnotation, WrongNext, NoRoom}
 
 pub number_above : (e : Refusal) → 0 < refusal_number e
 number_above (UnexpectedEof at) = omega arith
@@ -22,3 +22,5 @@ number_above UnusableLink = omega arith
 number_above NothingThere = omega arith
 number_above (InvalidCompressedAnnotation at) = omega arith
 number_above (UnknownBinaryAnnotation code) = omega arith
+number_above (WrongNext at) = omega arith
+number_above NoRoom = omega arith

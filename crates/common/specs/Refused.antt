@@ -2,7 +2,7 @@
 -- said), for 3 the kind, for 4 the prefix, and no more"; document 02, M-100: for 16 the code).
 use Rattle.std.specs.Prelude.{ℕ}
 use Rattle.common.specs.declared.Refusal.{Refusal}
-use Rattle.common.specs.declared.Refusal.TheVariants.{UnexpectedEof, SymbolTooShort, UnimplementedKind, UnexpectedNumericPrefix, TooLong, UnreadableOpener, OpenerAt0, WrongParent, TooDeep, NothingOpen, WrongEnd, LeftOpen, UnusableLink, NothingThere, InvalidCompressedAnnotation, UnknownBinaryAnnotation}
+use Rattle.common.specs.declared.Refusal.TheVariants.{UnexpectedEof, SymbolTooShort, UnimplementedKind, UnexpectedNumericPrefix, TooLong, UnreadableOpener, OpenerAt0, WrongParent, TooDeep, NothingOpen, WrongEnd, LeftOpen, UnusableLink, NothingThere, InvalidCompressedAnnotation, UnknownBinaryAnnotation, WrongNext, NoRoom}
 
 -- the number, the position, and the kind, the prefix or the code; 0 for what is not said
 pub record Told : Type 0 where
@@ -30,6 +30,8 @@ told_of UnusableLink = told 13 0 0
 told_of NothingThere = told 14 0 0
 told_of (InvalidCompressedAnnotation at) = told 15 at 0
 told_of (UnknownBinaryAnnotation code) = told 16 0 code
+told_of (WrongNext at) = told 17 at 0
+told_of NoRoom = told 18 0 0
 
 abbrev pub refusal_number : Refusal → ℕ
 refusal_number e = (told_of e).number

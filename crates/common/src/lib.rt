@@ -75,6 +75,14 @@ pub enum Refusal {
     /// 16: no instruction of an inline site has this code.
     #[error("no instruction has the code {0}")]
     UnknownBinaryAnnotation(u32),
+
+    /// 17: the next field of the opener at this position names no record.
+    #[error("the next of the opener at {0} names no record")]
+    WrongNext(usize),
+
+    /// 18: what is lent to be written to is too short.
+    #[error("what is lent to be written to is too short")]
+    NoRoom,
 }
 
 impl Refusal {
@@ -99,6 +107,8 @@ impl Refusal {
             Refusal::NothingThere => 14,
             Refusal::InvalidCompressedAnnotation(_) => 15,
             Refusal::UnknownBinaryAnnotation(_) => 16,
+            Refusal::WrongNext(_) => 17,
+            Refusal::NoRoom => 18,
         }
     }
 
@@ -116,6 +126,7 @@ impl Refusal {
             Refusal::WrongEnd(at) => at,
             Refusal::LeftOpen(at) => at,
             Refusal::InvalidCompressedAnnotation(at) => at,
+            Refusal::WrongNext(at) => at,
             _ => 0,
         }
     }
