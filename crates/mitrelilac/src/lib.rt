@@ -8,6 +8,7 @@
 
 pub mod condition3;
 
+ghost use Rattle.std.specs.Prelude.{◌≡◌, length};
 ghost use Rattle.constants.specs.Raw.{raw_kind};
 ghost use Rattle.symbol.specs.Decode.{decode};
 ghost use Rattle.symbol.specs.Name.{name_of};
@@ -18,8 +19,9 @@ ghost use Rattle.check_nesting.specs.Check.{check_of};
 ghost use Rattle.walk.specs.Walk.{walk_of};
 ghost use Rattle.jump.specs.Jump.{jump_of};
 ghost use Rattle.climb.specs.Climb.{climb_of};
+ghost use Rattle.squeezing.specs.Squeeze.{squeezed, squeeze_of, buffer_by};
 ghost use Rattle.reply.specs.Reply.{Replied};
-ghost use Rattle.reply.specs.Replies.{step_reply, kind_reply, decode_reply, name_reply, entry_reply, annotation_reply, check_reply, finding_reply};
+ghost use Rattle.reply.specs.Replies.{step_reply, kind_reply, decode_reply, name_reply, entry_reply, annotation_reply, check_reply, finding_reply, squeeze_reply};
 ghost use Rattle.mitrelilac.specs.Exported.{call, SumsUp, CallMovesOn};
 
 /// One step from a position. End: 0, position. A record: 1, index, where its bytes start, how many they are, next position.
@@ -105,4 +107,12 @@ pub fn mitrelilac_climb(stream: &[u8], i: usize, out: &mut [u64; 66]) -> u32
     ensures { Replied (finding_reply (climb_of stream.now i)) result out.old out.new }
 {
     reply::reply_chain(climb::climb(stream, i), out)
+}
+
+/// The stream written anew without fillers, save those before the first record kept, into a lent buffer: the length written.
+pub fn mitrelilac_squeeze(stream: &[u8], start: usize, buffer: &mut [u8], out: &mut [u64; 2]) -> u32
+    ensures replied { Replied (squeeze_reply (squeeze_of stream.now start (length buffer.old))) result out.old out.new }
+    ensures buffer { buffer.new ≡ buffer_by (squeeze_of stream.now start (length buffer.old)) (squeezed stream.now start) buffer.old }
+{
+    reply::reply_squeeze(squeezing::squeeze(stream, start, buffer), out)
 }

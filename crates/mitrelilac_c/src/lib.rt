@@ -107,3 +107,17 @@ pub extern "C" fn mitrelilac_climb(stream: &[u8], i: usize, out: &mut [u64; 66])
 {
     mitrelilac::mitrelilac_climb(stream, i, out)
 }
+
+/// The stream written anew without fillers, save those before the first record kept, into a lent buffer: the length written.
+#[unsafe(no_mangle)]
+pub extern "C" fn mitrelilac_squeeze(
+    stream: &[u8],
+    start: usize,
+    buffer: &mut [u8],
+    out: &mut [u64; 2],
+) -> u32
+    ensures replied { Replied (squeeze_reply (squeeze_of stream.now start (length buffer.old))) result out.old out.new }
+    ensures buffer { buffer.new ≡ buffer_by (squeeze_of stream.now start (length buffer.old)) (squeezed stream.now start) buffer.old }
+{
+    mitrelilac::mitrelilac_squeeze(stream, start, buffer, out)
+}

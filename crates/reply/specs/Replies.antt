@@ -85,3 +85,7 @@ found_words f = f.count ∷ chain_words f.chain
 
 abbrev pub finding_reply : Result Found Refusal → Reply
 finding_reply = reply_by found_words
+
+-- Squeezing: "the answer is the length written"
+abbrev pub squeeze_reply : Result ℕ Refusal → Reply
+squeeze_reply = reply_by (λ n. n ∷ [])

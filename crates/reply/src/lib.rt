@@ -7,7 +7,7 @@ pub mod annotation;
 ghost use Rattle.std.specs.Prelude.{◌≡◌, ◌≤◌, length};
 ghost use Rattle.words.specs.Written.{written};
 ghost use Rattle.reply.specs.Reply.{Replied, answers, refusal_reply};
-ghost use Rattle.reply.specs.Replies.{step_reply, name_reply, entry_reply, check_reply, found_words, finding_reply};
+ghost use Rattle.reply.specs.Replies.{step_reply, name_reply, entry_reply, check_reply, found_words, finding_reply, squeeze_reply};
 
 use chain::Found;
 use check_nesting::Counts;
@@ -119,6 +119,16 @@ pub fn reply_chain(found: Result<Found, Refusal>, out: &mut [u64; 66]) -> u32
             put_found(f, out);
             0
         }
+        Err(e) => refuse(out, e),
+    }
+}
+
+/// The length written.
+pub fn reply_squeeze(written: Result<usize, Refusal>, out: &mut [u64; 2]) -> u32
+    ensures { Replied (squeeze_reply written) result out.old out.new }
+{
+    match written {
+        Ok(n) => answer(out, [n as u64]),
         Err(e) => refuse(out, e),
     }
 }

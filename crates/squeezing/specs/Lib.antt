@@ -1,0 +1,2 @@
+pub mod Squeeze
+pub mod Squeezes

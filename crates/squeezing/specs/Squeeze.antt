@@ -1,0 +1,90 @@
+-- Squeezing out filler (document 02, M-103).
+use Rattle.std.specs.Prelude.{ℕ, ◌+◌, List, [], ◌∷◌, ◌++◌, length, take, drop, Bool, cond, ltb, eqb, Option, None, Some, unwrap_or, is_some, Result, Ok, Err}
+use Rattle.std.specs.Result.{result_and}
+use Rattle.common.specs.declared.Refusal.{Refusal}
+use Rattle.common.specs.declared.Refusal.TheVariants.{WrongNext, NoRoom}
+use Rattle.constants.specs.Raw.{nesting_role_of}
+use Rattle.constants.specs.declared.Role.{Role}
+use Rattle.constants.specs.declared.Role.TheVariants.{Neither, Opens, Closes}
+use Rattle.iter.specs.Reading.{Rec, read_of}
+use Rattle.links.specs.Links.{links_of, with_links}
+use Rattle.links.specs.declared.Links.{Links}
+use Rattle.check_nesting.specs.Check.{size, check_of}
+
+-- Where the record of index i lands, where these records are laid one behind the other from a position on; none where none has that index.
+unfoldable pub lands_from : ℕ → List Rec → ℕ → Option ℕ
+lands_from at [] i = None
+lands_from at (r ∷ rs) i = cond (eqb r.index i) (Some at) (lands_from (at + size r) rs i)
+
+-- The fillers "before the first kept record" stay, and so it keeps its position.
+unfoldable pub lands : List Rec → ℕ → Option ℕ
+unfolding lands_from
+lands [] i = None
+lands (r ∷ rs) i = lands_from r.index (r ∷ rs) i
+
+-- "0 stays": a link, moved to where the record that it names lands
+abbrev pub moved_link : (ℕ → Option ℕ) → ℕ → ℕ
+moved_link to x = cond (eqb x 0) 0 (unwrap_or (to x) 0)
+
+-- "Parent and end of every opener, and next of procedures and thunks, are moved to the new positions"
+abbrev pub moved_links : (ℕ → Option ℕ) → Links → Links
+moved_links to l = record { parent = moved_link to l.parent; end = moved_link to l.end; next = moved_link to l.next }
+
+-- the links of a record: None where it is no opener
+abbrev pub links_by_role : Role → List ℕ → Option Links
+links_by_role Opens bytes = links_of bytes
+links_by_role Closes bytes = None
+links_by_role Neither bytes = None
+
+unfoldable pub record_links : List ℕ → Option Links
+record_links bytes = links_by_role (nesting_role_of bytes) bytes
+
+abbrev pub moved_by : (ℕ → Option ℕ) → List ℕ → Option Links → List ℕ
+moved_by to bytes (Some l) = with_links (moved_links to l) bytes
+moved_by to bytes None = bytes
+
+-- a record with its links moved
+unfoldable pub moved : (ℕ → Option ℕ) → List ℕ → List ℕ
+moved to bytes = moved_by to bytes (record_links bytes)
+
+-- the records with their length fields, their links moved, one behind the other
+unfoldable pub row : List ℕ → (ℕ → Option ℕ) → List Rec → List ℕ
+row s to [] = []
+row s to (r ∷ rs) = take 2 (drop r.index s) ++ moved to r.bytes ++ row s to rs
+
+-- "Bytes before the start are copied, and a stream that yields no record is copied whole."
+unfoldable pub squeezed_from : List ℕ → List Rec → List ℕ
+unfolding row
+squeezed_from s [] = s
+squeezed_from s (r ∷ rs) = take r.index s ++ row s (lands (r ∷ rs)) (r ∷ rs)
+
+unfoldable pub squeezed : List ℕ → ℕ → List ℕ
+unfolding squeezed_from
+squeezed s start = squeezed_from s (read_of s start).recs
+
+-- "17 for a nonzero next that names no yielded record, at its opener": whether the next of a record, if it has one, is 0 or names one of these
+abbrev pub next_named : List Rec → Option Links → Bool
+next_named all None = true
+next_named all (Some l) = cond (eqb l.next 0) true (is_some (lands all l.next))
+
+-- "of several the first in the stream": the verdict on the records that are left
+unfoldable pub nexts_of : List Rec → List Rec → Result Unit Refusal
+nexts_of all [] = Ok tt
+nexts_of all (r ∷ rs) = cond (next_named all (record_links r.bytes)) (nexts_of all rs) (Err (WrongNext r.index))
+
+-- "then 18 if the buffer is too short"
+abbrev pub fitting : ℕ → ℕ → Result ℕ Refusal
+fitting n room = cond (ltb room n) (Err NoRoom) (Ok n)
+
+-- "Checks: after the check's own, 17 .. then 18"; "the answer is the length written"
+unfoldable pub squeeze_of : List ℕ → ℕ → ℕ → Result ℕ Refusal
+unfolding nexts_of
+squeeze_of s start room =
+    result_and (check_of s start)
+    (result_and (nexts_of (read_of s start).recs (read_of s start).recs)
+    (fitting (length (squeezed s start)) room))
+
+-- "Bytes beyond it, or all after a refusal, keep their values": what the buffer holds after the call
+abbrev pub buffer_by : Result ℕ Refusal → List ℕ → List ℕ → List ℕ
+buffer_by (Ok n) written buffer = written ++ drop n buffer
+buffer_by (Err e) written buffer = buffer
