@@ -1,2 +1,2 @@
 pub mod Squeeze
-pub mod Squeezes
+pub mod Landing

@@ -1,7 +1,10 @@
 // Where records land in the squeezed stream.
 #![tactic(auto)]
 
-ghost use Rattle.std.specs.Prelude.{◌≡◌};
+ghost use Rattle.std.specs.Prelude.{◌≡◌, ◌≤◌, ◌+◌};
+ghost use Rattle.iter.specs.Reading.{read_of};
+ghost use Rattle.squeezing.specs.Squeeze.{lands_from};
+ghost use Rattle.squeezing.specs.Landing.{Lands, landing_at, first_of};
 
 use iter::{Next, Record};
 
@@ -16,8 +19,11 @@ pub struct Landing {
 }
 
 impl Landing {
-    /// Behind a record.
-    pub fn behind(self, r: Record) -> Landing {
+    /// Behind a record that lands here.
+    pub fn behind(self, r: Record) -> Landing
+        requires { self.to + 2 + r.len ≤ r.next }
+        ensures { result ≡ record { at = r.next; to = self.to + 2 + r.len } }
+    {
         Landing {
             at: r.next,
             to: self.to + 2 + r.len,
@@ -25,28 +31,57 @@ impl Landing {
     }
 }
 
-/// The first record keeps its position; without one, the whole stream does.
-pub fn first_landing(s: &[u8], start: usize) -> Landing {
-    let to = match iter::step(s, start) {
-        Ok(Next::Record(r)) => r.index,
-        _ => s.len(),
-    };
-    Landing { at: start, to }
-}
-
-/// Where the record at i lands, if one is there.
-pub fn landing_from(s: &[u8], from: Landing, i: usize) -> Option<usize> {
+/// Where the record at i lands, by reading on; none where none begins there.
+pub fn landing_from(s: &[u8], from: Landing, i: usize) -> Option<usize>
+    requires { from.to ≤ from.at }
+    ensures { result ≡ lands_from from.to (read_of s.now from.at).recs i }
+{
     let mut here = from;
     loop {
-        let Ok(Next::Record(r)) = iter::step(s, here.at) else {
-            return None;
-        };
-        if r.index == i {
-            return Some(here.to);
+        match iter::step(s, here.at) {
+            Err(_) => return None,
+            Ok(Next::End(_)) => return None,
+            Ok(Next::Record(r)) => {
+                if r.index == i {
+                    return Some(here.to);
+                }
+                if i < r.index {
+                    return None;
+                }
+                here = here.behind(r);
+            }
         }
-        if i < r.index {
-            return None;
+    }
+}
+
+/// Where the record at i lands, by reading on from one that is known, unless that is past it, or from the first. One that is found is
+/// the known one then.
+#[tactic(auto, using(crate::proofs::Landings::first_lands, crate::proofs::Landings::found_lands))]
+pub fn landing_of(s: &[u8], first: usize, known: &mut Landing, i: usize) -> Option<usize>
+    requires { Lands s.now first known.old }
+    ensures place { result ≡ landing_at s.now first i }
+    ensures known { Lands s.now first known.new }
+{
+    let from = if known.at <= i {
+        *known
+    } else {
+        Landing {
+            at: first,
+            to: first,
         }
-        here = here.behind(r);
+    };
+    let to = landing_from(s, from, i)?;
+    *known = Landing { at: i, to };
+    Some(to)
+}
+
+/// Where the first record begins, or the end of the stream where there is none.
+pub fn first_index(s: &[u8], start: usize) -> usize
+    ensures { result ≡ first_of s.now start }
+{
+    match iter::step(s, start) {
+        Ok(Next::Record(r)) => r.index,
+        Ok(Next::End(_)) => s.len(),
+        Err(_) => s.len(),
     }
 }
