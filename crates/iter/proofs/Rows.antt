@@ -1,21 +1,18 @@
 -- What steps yield of records laid one behind the other.
 -- Assumes nothing.
-use Rattle.std.proofs.Common.{ℕ, zero, suc, ◌+◌, ◌≤◌, ◌<◌, ◌≡◌, refl, sym, ap, ◌∙◌, arith, List, length, take, drop, Bool, true, false, Some, Ok}
+use Rattle.std.proofs.Common.{ℕ, zero, suc, ◌+◌, ◌≤◌, ◌<◌, ◌≡◌, refl, sym, ap, ◌∙◌, subst, arith, List, [], ◌∷◌, ◌++◌, length, take, drop, length-append, length-drop, drop-drop, drop_at, take_at, ◌-◌, Bool, true, false, Some, Ok}
 use Rattle.std.proofs.lemmas.Grind.{common_steps}
 use Rattle.common.specs.Bytes.{le}
 use Rattle.constants.specs.Kind.{is_filler}
+use Rattle.iter.specs.Reading.{Rec, ends, Reading, bytes_at, rec_at, more, read_of}
 use Rattle.iter.specs.Step.{frame_at, plain, framed, pass_over, scan_from, scan_of}
 use Rattle.iter.specs.declared.Frame.{Frame}
 use Rattle.iter.specs.declared.Record.{Record}
 use Rattle.iter.specs.declared.Scan.{Scan}
 use Rattle.iter.specs.declared.Next.TheVariants as N
 use Rattle.iter.proofs.Laws.{Fits, scan-ind}
-use Rattle.iter.proofs.Reading.{step_fits}
-use Rattle.iter.proofs.Records.{le_part}
-
--- numbers in two lists are one where their bytes are
-le_same : (n : ℕ) (s t : List ℕ) (p q : ℕ) → take n (drop p s) ≡ take n (drop q t) → le n s p ≡ le n t q
-le_same n s t p q e = grind (arith, le_part n s p n 0, le_part n t q n 0)
+use Rattle.iter.proofs.Reading.{own, step_fits, read_by}
+use Rattle.iter.proofs.Records.{le_part, read-ind, bytes-length, kind_of}
 
 pub frame_there : (t : List ℕ) (p : ℕ) (f : Frame) → Fits t p f → frame_at t p ≡ Ok (Some f)
 unfolding frame_at
@@ -30,40 +27,130 @@ scan_inside : (s : List ℕ) (at : ℕ) → at < length s → length s ≤ 42949
 unfolding scan_of
 scan_inside s at h small = grind (arith, common_steps)
 
--- A step from a position is made alike in two streams that are the same up to the kind of the record that it yields.
-module _ (s t : List ℕ) (at : ℕ) {it : Record} (e : (scan_of s at).step ≡ Ok (N.Record it)) (same : take (it.index + 4) t ≡ take (it.index + 4) s)
-    (in_t : it.next ≤ length t)
-  where
-  le_there : (p : ℕ) → p ≤ it.index + 2 → le 2 t p ≡ le 2 s p
-  le_there p h = grind (arith, same, le_part 2 s 0 (it.index + 4) p, le_part 2 t 0 (it.index + 4) p)
+abbrev pub frame_of : Record → Frame
+frame_of it = record { kind = it.kind; len = it.len }
 
-  frame_same : (p : ℕ) (f : Frame) → p ≤ it.index → p + 2 + f.len ≤ it.next → Fits s p f → frame_at t p ≡ Ok (Some f)
-  frame_same p f a b w =
+-- A step from a position is made alike in two streams that are the same up to the record that it yields, where that has a frame of its kind
+-- and length in both.
+module _ (s t : List ℕ) (at : ℕ) (it : Record) (e : (scan_of s at).step ≡ Ok (N.Record it)) (same : take it.index t ≡ take it.index s)
+    (in_t : Fits t it.index (frame_of it))
+  where
+  le_before : (p : ℕ) → p + 2 ≤ it.index → le 2 t p ≡ le 2 s p
+  le_before p h = grind (arith, same, le_part 2 s 0 it.index p, le_part 2 t 0 it.index p)
+
+  frame_before : (p : ℕ) (f : Frame) → p + 2 + f.len ≤ it.index → Fits s p f → frame_at t p ≡ Ok (Some f)
+  frame_before p f h w =
       frame_there t p f
-      (record { within = omega (arith, in_t); least = w.least; len_is = le_there p (omega arith) ∙ w.len_is; kind_is = le_there (p + 2) (omega arith) ∙ w.kind_is })
+      (record { within = omega arith; least = w.least; len_is = le_before p (omega arith) ∙ w.len_is; kind_is = le_before (p + 2) (omega arith) ∙ w.kind_is })
 
   -- with enough fuel t is scanned so from p too, if that yields the record
   abbrev Alike : ℕ → Scan → Type 0
   Alike p c = c.step ≡ Ok (N.Record it) → (p ≤ it.index) × ((k : ℕ) → length t ≤ p + k → scan_from (suc k) t p ≡ c)
 
-  filler_same : (p : ℕ) (f : Frame) (c : Scan) → Fits s p f → is_filler f.kind ≡ true → Alike (p + 2 + f.len) c → Alike p (pass_over f.len c)
+  record_alike : (p : ℕ) (f : Frame) → is_filler f.kind ≡ false → Alike p (plain (Ok (N.Record (framed p f))))
   unfolding scan_from
-  filler_same p f c w k ih d = (omega (arith, (ih d).0), go (ih d).0 (ih d).1)
-    where
-      go : p + 2 + f.len ≤ it.index → ((k : ℕ) → length t ≤ p + 2 + f.len + k → scan_from (suc k) t (p + 2 + f.len) ≡ c) → (k : ℕ) → length t ≤ p + k → scan_from (suc k) t p ≡ pass_over f.len c
-      go b on zero h = absurd (omega (arith, step_fits s at it e))
-      go b on (suc j) h = rw (frame_same p f (omega arith) (omega (arith, step_fits s at it e)) w, k, on j (omega arith))
+  record_alike p f k d =
+      let is : framed p f ≡ it = cc in
+      let here : p ≡ it.index = ap (λ r. r.index) is in
+      let there : Fits t p f = subst (λ r. Fits t r.index (frame_of r)) (sym is) in_t in
+      (omega arith, λ j h. rw (frame_there t p f there, k))
 
-  scans_same : (k p : ℕ) → p ≤ length s → length s < p + k → Alike p (scan_from k s p)
+  filler_alike : (p : ℕ) (f : Frame) (c : Scan) → Fits s p f → is_filler f.kind ≡ true → Alike (p + 2 + f.len) c → Alike p (pass_over f.len c)
   unfolding scan_from
-  scans_same =
-      scan-ind s Alike (λ p e d. cc) (λ p x h d. cc)
-      (λ p f w _ k d. let here : p ≡ it.index = cc in let ends : p + 2 + f.len ≡ it.next = cc in (omega arith, λ j h. rw (frame_same p f (omega arith) (omega arith) w, k)))
-      filler_same
+  filler_alike p f c w k ih d = (omega (arith, (ih d).0), go (ih d).0)
+    where
+      go : p + 2 + f.len ≤ it.index → (j : ℕ) → length t ≤ p + j → scan_from (suc j) t p ≡ pass_over f.len c
+      go b zero h = absurd (omega (arith, in_t))
+      go b (suc j) h = rw (frame_before p f b w, k, (ih d).1 j (omega arith))
 
   pub scan_same : length t ≤ 4294967295 → scan_of t at ≡ scan_of s at
   scan_same small =
       let y = step_fits s at it e in
       let here = scan_inside s at (omega arith) y.small in
-      let alike = scans_same (suc (length s)) at (omega arith) (omega arith) (ap (λ c. c.step) (sym here) ∙ e) in
-      scan_inside t at (omega arith) small ∙ alike.1 (length t) (omega arith) ∙ sym here
+      let alike = scan-ind s Alike (λ p e d. cc) (λ p x h d. cc) (λ p f w _. record_alike p f) filler_alike (suc (length s)) at (omega arith) (omega arith) in
+      let on = alike (ap (λ c. c.step) (sym here) ∙ e) in
+      scan_inside t at (omega arith) small ∙ on.1 (length t) (omega arith) ∙ sym here
+
+-- the frame of a record's bytes
+abbrev pub frame_in : List ℕ → Frame
+frame_in bytes = record { kind = le 2 bytes 0; len = length bytes }
+
+-- a record of a reading is no filler, and stands in the stream with its frame and its bytes
+pub record Stood (s : List ℕ) (r : Rec) : Type 0 where
+  pub fits : Fits s r.index (frame_in r.bytes)
+  pub kept : is_filler (le 2 r.bytes 0) ≡ false
+  pub bytes_are : take (length r.bytes) (drop (r.index + 2) s) ≡ r.bytes
+
+-- each record of a list
+abbrev pub Stand : List ℕ → List Rec → Type 0
+Stand s [] = Unit
+Stand s (r ∷ rs) = Stood s r × Stand s rs
+
+stood : (s : List ℕ) (at : ℕ) (it : Record) → (scan_of s at).step ≡ Ok (N.Record it) → Stood s (rec_at s (scan_of s at) it)
+stood s at it e =
+    let o = own s at it e in
+    let long = bytes-length s at it e in
+    let kind : le 2 (bytes_at s it) 0 ≡ it.kind = grind (arith, le_part 2 s it.start it.len 0, o) in
+    record { fits = rw (kind, long) o.fits; kept = rw kind o.kept; bytes_are = rw (long, o.starts) }
+
+pub stand : (s : List ℕ) (at : ℕ) → Stand s (read_of s at).recs
+stand s = read-ind s (λ at r. Stand s r.recs) (λ at q e. tt) (λ at x e. tt) (λ at it e ih. (stood s at it e, ih))
+
+-- A record as it is written: its length field and its bytes.
+pub record Piece : Type 0 where
+  pub head : List ℕ
+  pub body : List ℕ
+
+pub record Sound (f : Piece) : Type 0 where
+  pub two : length f.head ≡ 2
+  pub len_is : le 2 f.head 0 ≡ length f.body
+  pub least : 2 ≤ length f.body
+  pub kept : is_filler (le 2 f.body 0) ≡ false
+
+abbrev pub Sounds : List Piece → Type 0
+Sounds [] = Unit
+Sounds (f ∷ fs) = Sound f × Sounds fs
+
+-- pieces one behind the other, and what is read of them
+abbrev pub row : List Piece → List ℕ
+row [] = []
+row (f ∷ fs) = f.head ++ (f.body ++ row fs)
+
+abbrev pub laid : ℕ → List Piece → List Rec
+laid at [] = []
+laid at (f ∷ fs) = record { index = at; bytes = f.body; fillers = 0; filler_bytes = 0 } ∷ laid (at + 2 + length f.body) fs
+
+-- a reading that ends at the end of the stream, with nothing passed over behind the last record
+abbrev pub to_end : List Rec → Reading
+to_end rs = record { recs = rs; last = record { fillers = 0; filler_bytes = 0; ending = ends } }
+
+-- the number that what is left begins with
+le_front : (t xs rest : List ℕ) (at : ℕ) → drop at t ≡ xs ++ rest → 2 ≤ length xs → le 2 t at ≡ le 2 xs 0
+le_front t xs rest at is h = grind (arith, common_steps, ap (take 2) is, le_part 2 t at 2 0, le_part 2 xs 0 2 0)
+
+module _ (t : List ℕ) (at : ℕ) (f : Piece) (rest : List ℕ) (ok : Sound f) (is : drop at t ≡ f.head ++ (f.body ++ rest)) where
+  body_there : drop (at + 2) t ≡ f.body ++ rest
+  body_there = sym (drop-drop 2 at t) ∙ ap (drop 2) is ∙ drop_at f.head (f.body ++ rest) 2 ok.two
+
+  fits_there : Fits t at (frame_in f.body)
+  fits_there =
+      let long : length t - at ≡ length f.head + (length f.body + length rest) = simp (length-drop, length-append) at (ap length is) in
+      record {
+        within = omega (arith, ok);
+        least = ok.least;
+        len_is = le_front t f.head (f.body ++ rest) at is (omega (arith, ok)) ∙ ok.len_is;
+        kind_is = le_front t f.body rest (at + 2) body_there ok.least;
+      }
+
+  bytes_there : take (length f.body) (drop (at + 2) t) ≡ f.body
+  bytes_there = ap (take (length f.body)) body_there ∙ take_at f.body rest (length f.body) refl
+
+  rest_there : drop (at + 2 + length f.body) t ≡ rest
+  rest_there = sym (drop-drop (length f.body) (at + 2) t) ∙ ap (drop (length f.body)) body_there ∙ drop_at f.body rest (length f.body) refl
+
+pub read_row : (t : List ℕ) (fs : List Piece) (at : ℕ) → Sounds fs → drop at t ≡ row fs → length t ≤ 4294967295 → read_of t at ≡ to_end (laid at fs)
+read_row t [] at ok is small = ?
+read_row t (f ∷ fs) at ok is small =
+    let there = scan_there t at (frame_in f.body) (fits_there t at f (row fs) ok.0 is) ok.0.kept small in
+    read_by t at (Ok (N.Record (framed at (frame_in f.body)))) (ap (λ c. c.step) there)
+    ∙ rw (there, bytes_there t at f (row fs) ok.0 is, read_row t fs (at + 2 + length f.body) ok.1 (rest_there t at f (row fs) ok.0 is) small)
