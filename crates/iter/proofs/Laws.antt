@@ -14,6 +14,7 @@ use Rattle.iter.specs.declared.Next.TheVariants as N
 pub record Fits (s : List ℕ) (p : ℕ) (f : Frame) : Type 0 where
   pub within : p + 2 + f.len ≤ length s
   pub least : 2 ≤ f.len
+  pub len_is : le 2 s p ≡ f.len
   pub kind_is : le 2 s (p + 2) ≡ f.kind
 
 -- what is known where this frame stands
@@ -53,7 +54,7 @@ module _
     (at_end : (p : ℕ) → p ≡ length s → P p (plain (Ok (N.End p))))
     (at_refusal : (p : ℕ) (e : Refusal) → p ≤ length s → P p (plain (Err e)))
     (at_record : (p : ℕ) (f : Frame) → Fits s p f → frame_at s p ≡ Ok (Some f) → is_filler f.kind ≡ false → P p (plain (Ok (N.Record (framed p f)))))
-    (at_filler : (p : ℕ) (f : Frame) (c : Scan) → Fits s p f → P (p + 2 + f.len) c → P p (pass_over f.len c))
+    (at_filler : (p : ℕ) (f : Frame) (c : Scan) → Fits s p f → is_filler f.kind ≡ true → P (p + 2 + f.len) c → P p (pass_over f.len c))
   where
     at-frame : (p : ℕ) (on : ℕ → Scan) → p ≤ length s → ((f : Frame) → Fits s p f → P (p + 2 + f.len) (on (p + 2 + f.len))) →
         (x : Result (Option Frame) Refusal) → frame_at s p ≡ x → Stands s p x → P p (on_frame p x on)
@@ -62,7 +63,7 @@ module _
     at-frame p on h ih (Ok (Some f)) e w = go (is_filler f.kind) refl
       where
         go : (b : Bool) → is_filler f.kind ≡ b → P p (cond b (pass_over f.len (on (p + 2 + f.len))) (plain (Ok (N.Record (framed p f)))))
-        go true k = at_filler p f (on (p + 2 + f.len)) w (ih f w)
+        go true k = at_filler p f (on (p + 2 + f.len)) w k (ih f w)
         go false k = at_record p f w e k
 
     pub scan-ind : (k p : ℕ) → p ≤ length s → length s < p + k → P p (scan_from k s p)

@@ -43,7 +43,7 @@ fillers_from s =
     (λ p e h. record { within = omega arith; few = omega arith; stops = tt })
     (λ p f w e k.
     record { within = omega (arith, w); few = omega arith; stops = record { here = add-zero p; starts = refl; ends = refl; frame = e; fits = w; kept = k } })
-    (λ p f c w k.
+    (λ p f c w _ k.
     let e : p + 2 + f.len + c.filler_bytes ≡ p + (c.filler_bytes + (2 + f.len)) = omega arith in
     record { within = omega (arith, k.within); few = omega (arith, k.few); stops = rw e at k.stops })
 

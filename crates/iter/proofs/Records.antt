@@ -37,7 +37,7 @@ module _
     read-ind = later-ind (length s) (λ at. P at (read_of s at)) (λ at ih. at-step at ih (scan_of s at).step refl)
 
 -- a number in a part of the bytes
-le_part : (n : ℕ) (s : List ℕ) (start len at : ℕ) → at + n ≤ len → le n (take len (drop start s)) at ≡ le n s (start + at)
+pub le_part : (n : ℕ) (s : List ℕ) (start len at : ℕ) → at + n ≤ len → le n (take len (drop start s)) at ≡ le n s (start + at)
 unfolding le
 le_part zero s start len at h = refl
 le_part (suc n) s start len at h = let here : at < len = omega arith in rw (get_or-take, get_or-drop, le_part n s start len (suc at) (omega arith), add-suc)
