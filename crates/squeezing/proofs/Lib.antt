@@ -1,1 +1,2 @@
 pub mod Landings
+pub mod Plans

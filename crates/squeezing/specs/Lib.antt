@@ -1,2 +1,4 @@
 pub mod Squeeze
 pub mod Landing
+pub mod Plan
+pub mod Squeezes

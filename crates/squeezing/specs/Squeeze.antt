@@ -1,5 +1,5 @@
 -- Squeezing out filler (document 02, M-103).
-use Rattle.std.specs.Prelude.{ℕ, ◌+◌, List, [], ◌∷◌, ◌++◌, length, take, drop, Bool, cond, ltb, eqb, Option, None, Some, unwrap_or, is_some, Result, Ok, Err}
+use Rattle.std.specs.Prelude.{ℕ, ◌+◌, List, [], ◌∷◌, ◌++◌, length, take, drop, cond, ◌||◌, ltb, eqb, Option, None, Some, unwrap_or, is_some, Result, Ok, Err}
 use Rattle.std.specs.Result.{result_and}
 use Rattle.common.specs.declared.Refusal.{Refusal}
 use Rattle.common.specs.declared.Refusal.TheVariants.{WrongNext, NoRoom}
@@ -62,15 +62,17 @@ unfoldable pub squeezed : List ℕ → ℕ → List ℕ
 unfolding squeezed_from
 squeezed s start = squeezed_from s (read_of s start).recs
 
--- "17 for a nonzero next that names no yielded record, at its opener": whether the next of a record, if it has one, is 0 or names one of these
-abbrev pub next_named : List Rec → Option Links → Bool
-next_named all None = true
-next_named all (Some l) = cond (eqb l.next 0) true (is_some (lands all l.next))
+-- the next of a record, 0 where it has none
+abbrev pub next_by : Option Links → ℕ
+next_by (Some l) = l.next
+next_by None = 0
 
--- "of several the first in the stream": the verdict on the records that are left
-unfoldable pub nexts_of : List Rec → List Rec → Result Unit Refusal
-nexts_of all [] = Ok tt
-nexts_of all (r ∷ rs) = cond (next_named all (record_links r.bytes)) (nexts_of all rs) (Err (WrongNext r.index))
+-- "17 for a nonzero next that names no yielded record, at its opener (.. of several the first in the stream)"
+unfoldable pub nexts_of : (ℕ → Option ℕ) → List Rec → Result Unit Refusal
+nexts_of to [] = Ok tt
+nexts_of to (r ∷ rs) =
+    let next = next_by (record_links r.bytes) in
+    cond (eqb next 0 || is_some (to next)) (nexts_of to rs) (Err (WrongNext r.index))
 
 -- "then 18 if the buffer is too short"
 abbrev pub fitting : ℕ → ℕ → Result ℕ Refusal
@@ -78,10 +80,10 @@ fitting n room = cond (ltb room n) (Err NoRoom) (Ok n)
 
 -- "Checks: after the check's own, 17 .. then 18"; "the answer is the length written"
 unfoldable pub squeeze_of : List ℕ → ℕ → ℕ → Result ℕ Refusal
-unfolding nexts_of
+unfolding nexts_of lands
 squeeze_of s start room =
     result_and (check_of s start)
-    (result_and (nexts_of (read_of s start).recs (read_of s start).recs)
+    (result_and (nexts_of (lands (read_of s start).recs) (read_of s start).recs)
     (fitting (length (squeezed s start)) room))
 
 -- "Bytes beyond it, or all after a refusal, keep their values": what the buffer holds after the call

@@ -19,6 +19,16 @@ pub struct Landing {
 }
 
 impl Landing {
+    /// The first record, which keeps its position.
+    pub fn first(index: usize) -> Landing
+        ensures { result ≡ record { at = index; to = index } }
+    {
+        Landing {
+            at: index,
+            to: index,
+        }
+    }
+
     /// Behind a record that lands here.
     pub fn behind(self, r: Record) -> Landing
         requires { self.to + 2 + r.len ≤ r.next }
@@ -65,10 +75,7 @@ pub fn landing_of(s: &[u8], first: usize, known: &mut Landing, i: usize) -> Opti
     let from = if known.at <= i {
         *known
     } else {
-        Landing {
-            at: first,
-            to: first,
-        }
+        Landing::first(first)
     };
     let to = landing_from(s, from, i)?;
     *known = Landing { at: i, to };
