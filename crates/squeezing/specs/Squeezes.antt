@@ -39,9 +39,9 @@ KeptBy Neither rs ts bytes bytes' = bytes' ≡ bytes
 -- "in order": the records that are left of both rows, one by one
 abbrev pub EachKept : List Rec → List Rec → List Rec → List Rec → Type 0
 EachKept rs ts [] [] = Unit
-EachKept rs ts (a ∷ as) (b ∷ bs) = KeptBy (nesting_role_of a.bytes) rs ts a.bytes b.bytes × EachKept rs ts as bs
-EachKept rs ts [] (b ∷ bs) = ⊥
-EachKept rs ts (a ∷ as) [] = ⊥
+EachKept rs ts (r ∷ left) (t ∷ left') = KeptBy (nesting_role_of r.bytes) rs ts r.bytes t.bytes × EachKept rs ts left left'
+EachKept rs ts [] (t ∷ left') = ⊥
+EachKept rs ts (r ∷ left) [] = ⊥
 
 -- "no filler after the first record"
 abbrev pub NoFillers : List Rec → Type 0
