@@ -1,9 +1,9 @@
 -- Links put in the place of a record's own: the record is as long, of its kind and read as before, and its links are those.
 -- Assumes nothing.
-use Rattle.std.proofs.Common.{ℕ, ◌≡◌, refl, sym, ◌∙◌, ap, ◌+◌, ◌≤◌, ◌<◌, ◌^◌, arith, Bool, true, false, cond, List, length, drop, Option, None, Some, Ok, Err}
+use Rattle.std.proofs.Common.{ℕ, ◌≡◌, refl, sym, ◌∙◌, ap, ◌+◌, ◌≤◌, ◌<◌, ◌^◌, arith, Bool, true, false, cond, List, length, drop, get_or, Some, Ok, Err}
 use lib.Dec.{ltb, leb}
 use Rattle.common.specs.Bytes.{le, put_u32}
-use Rattle.common.proofs.Bytes.{le_drop, length_put, drop_put, le_behind_put, le_before_put, le_put_u32}
+use Rattle.common.proofs.Bytes.{le_drop, length_put, drop_put, le_behind_put, le_before_put, le_put_u32, put_u32_own}
 use Rattle.common.specs.Reader.{Read, Reader, done, next, number, runs_out, ◌>>=◌}
 use Rattle.common.specs.declared.Refusal.{Refusal}
 use Rattle.common.specs.declared.Refusal.TheVariants.{TooLong}
@@ -26,7 +26,7 @@ abbrev answered : {A : Type 0} → Read A → Bool
 answered (Ok r) = true
 answered (Err e) = false
 
--- It was where its readers found room: behind a number, behind a choice, and at last, whatever is made of what they read.
+-- What is read after a number, which is there or not, after another reader, by a choice, and what is made at last.
 module _ {A B : Type 0} (s : List ℕ) where
   behind_number : (k : A → Reader B) (b : Bool) (x : A) (to : ℕ) (e : Refusal) →
       answered (next k s (cond b (Ok (x, to)) (Err e))) ≡ cond b (answered (k x s to)) false
@@ -47,17 +47,13 @@ module _ {A B : Type 0} (s : List ℕ) where
   at_last f (Ok r) = refl
   at_last f (Err e) = refl
 
-  two_at_last : {C : Type 0} (f : A → B → C) (m : Reader B) (r : Read A) → answered (next (λ a. m >>= λ b. done (f a b)) s r) ≡ answered (next (λ a. m) s r)
-  two_at_last f m (Ok r) = by (m s r.1)
-    where
-      by : (q : Read B) → answered (next (λ b. done (f r.0 b)) s q) ≡ answered q
-      by (Ok q) = refl
-      by (Err e) = refl
-  two_at_last f m (Err e) = refl
-
 of_choice : {A : Type 0} (s : List ℕ) (b : Bool) (m n : Reader A) (at : ℕ) → answered (cond b m n s at) ≡ cond b (answered (m s at)) (answered (n s at))
 of_choice s true m n at = refl
 of_choice s false m n at = refl
+
+two_at_last : {A B C : Type 0} (s : List ℕ) (f : A → B → C) (m : Reader B) (r : Read A) → answered (next (λ a. m >>= λ b. done (f a b)) s r) ≡ answered (next (λ a. m) s r)
+two_at_last s f m (Ok r) = at_last s (f r.0) (m s r.1)
+two_at_last s f m (Err e) = refl
 
 ruleset reading = (behind_number, behind_two, behind_choice, of_choice, at_last, two_at_last)
 
@@ -67,7 +63,7 @@ record Relinked (s t : List ℕ) : Type 0 where
   number : le 2 s 0 ≡ le 2 t 0
   behind : (at : ℕ) → 14 ≤ at → drop at s ≡ drop at t
 
--- the one is read where the other is
+-- The one is read where the other is: the readers behind 14 find the same, and those before it find numbers in any case.
 module _ {s t : List ℕ} (h : Relinked s t) where
   kinds : raw_kind s ≡ raw_kind t
   unfolding raw_kind
@@ -145,7 +141,7 @@ was_read s {l} = by (decode s) refl
     by (Ok r) e h = (r, e, cc)
     by (Err x) e h = cc
 
--- a record next to the same with these links, with a next or without
+-- a record, and the same with these links, with a next or without
 record Placed (n : Bool) (m : Links) (s t : List ℕ) : Type 0 where
   relinked : Relinked s t
   parent : m.parent < 2 ^ 32 → le 4 t 2 ≡ m.parent
@@ -194,3 +190,11 @@ module _ (s : List ℕ) {l : Links} (opens : nesting_role_of s ≡ Opens) (read 
         by : (b : Bool) → has_next (raw_kind s) ≡ b → cond (has_next (raw_kind s)) (le 4 (with_links m s) 10) 0 ≡ m.next
         by true h = rw h (with_links_placed.next n h)
         by false h = rw h (sym (none h))
+
+  pub with_links_own : ((i : ℕ) → get_or s i 0 < 256) → with_links l s ≡ s
+  unfolding with_links
+  with_links_own small = rw (links_is s read, put_u32_own 2 s (omega (arith, links_within)) small) (by (has_next (raw_kind s)) next_within)
+    where
+      by : (n : Bool) → (n ≡ true → 14 ≤ length s) → put_u32 6 (le 4 s 6) (cond n (put_u32 10 (cond n (le 4 s 10) 0) s) s) ≡ s
+      by true room = rw (put_u32_own 10 s (room refl) small) (put_u32_own 6 s links_within small)
+      by false room = put_u32_own 6 s links_within small
