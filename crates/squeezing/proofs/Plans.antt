@@ -1,32 +1,72 @@
 -- Laws of the planning loop.
 -- Assumes nothing.
-use Rattle.std.proofs.Common.{ℕ, ◌+◌, ◌≤◌, ◌≡◌, refl, sym, ap, ◌∙◌, arith, List, [], ◌∷◌, length, true, Some, eqb, is_some, cond, ◌||◌, Result, Ok, Err}
-use Rattle.std.specs.Prelude.{sum_by}
+use Rattle.std.proofs.Common.{ℕ, ◌+◌, ◌-◌, ◌≤◌, ◌≡◌, refl, sym, ap, subst, ◌∙◌, arith, List, [], ◌∷◌, length, take, drop, true, false, Option, None, Some, eqb, is_some, cond, ◌||◌, ◌&&◌, Result, Ok, Err}
+use Rattle.std.specs.Prelude.{sum_by, IsSome}
 use Rattle.std.specs.Result.{result_and}
 use Rattle.std.proofs.lemmas.Grind.{common_steps}
 use Rattle.common.specs.declared.Refusal.{Refusal}
 use Rattle.common.specs.declared.Refusal.TheVariants.{WrongNext}
 use Rattle.constants.specs.Raw.{raw_kind, nesting_role_of}
-use Rattle.constants.specs.Kind.{nesting_role}
-use Rattle.constants.specs.declared.Role.TheVariants.{Opens}
+use Rattle.constants.specs.Kind.{nesting_role, opens}
+use Rattle.constants.specs.declared.Role.{Role}
+use Rattle.constants.specs.declared.Role.TheVariants.{Opens, Closes, Neither}
 use Rattle.iter.specs.Step.{scan_of}
 use Rattle.iter.specs.Reading.{Reading, bytes_at, rec_at, read_of}
 use Rattle.iter.specs.declared.Record.{Record}
 use Rattle.iter.specs.declared.Next.TheVariants as N
 use Rattle.iter.proofs.Reading.{step_fits, read_by}
 use Rattle.iter.proofs.Records.{bytes-length}
-use Rattle.links.specs.Links.{has_next}
+use Rattle.common.specs.Bytes.{le}
+use Rattle.links.specs.Links.{has_next, links_of}
+use Rattle.links.specs.declared.Links.{Links}
+use Rattle.links.proofs.Relinked.{links_is, next_within}
 use Rattle.check_nesting.specs.Check.{size}
 use Rattle.squeezing.specs.declared.landing.Landing.{Landing}
-use Rattle.squeezing.specs.Squeeze.{record_links, next_by, nexts_of}
+use Rattle.squeezing.specs.Squeeze.{links_by_role, record_links, next_by, nexts_of}
 use Rattle.squeezing.specs.Landing.{landing_at, Lands}
+use Rattle.squeezing.proofs.Landings.{first_lands}
 use Rattle.squeezing.specs.Plan.{plan_of, Readable, AllReadable}
 
+-- what links_of answers of a readable opener
+read_links : (bytes : List ℕ) → Readable bytes → nesting_role_of bytes ≡ Opens → (l : Links) × (links_of bytes ≡ Some l)
+read_links bytes h o = by (links_of bytes) refl (h o)
+  where
+    by : (l : Option Links) → links_of bytes ≡ l → IsSome (links_of bytes) → (l : Links) × (links_of bytes ≡ Some l)
+    by (Some l) e i = (l, e)
+    by None e i = cc
+
 pub next_there : (bytes : List ℕ) (kind : ℕ) → kind ≡ raw_kind bytes → Readable bytes → nesting_role kind ≡ Opens → has_next kind ≡ true → 14 ≤ length bytes
-next_there bytes kind k h o n = ?
+unfolding nesting_role_of
+next_there bytes kind k h o n = let r = read_links bytes h (rw k at o) in next_within bytes (rw k at o) r.1 (rw k at n)
+
+-- the next that stands in the record of a kind that has one, and 0 in another
+module _ (bytes : List ℕ) {kind : ℕ} (k : kind ≡ raw_kind bytes) (h : Readable bytes) where
+  pub next_stands : nesting_role kind ≡ Opens → has_next kind ≡ true → le 4 bytes 10 ≡ next_by (record_links bytes)
+  unfolding record_links nesting_role_of
+  next_stands o n =
+      let r = read_links bytes h (rw k at o) in
+      rw (sym k, o, r.1, links_is bytes r.1, sym k, n) refl
+
+  pub no_next : has_next kind ≡ false → 0 ≡ next_by (record_links bytes)
+  unfolding record_links nesting_role_of
+  no_next n = by (nesting_role (raw_kind bytes)) refl
+    where
+      by : (ro : Role) → nesting_role (raw_kind bytes) ≡ ro → 0 ≡ next_by (links_by_role ro bytes)
+      by Opens o = let r = read_links bytes h o in rw (r.1, links_is bytes r.1, sym k, n) refl
+      by Closes o = refl
+      by Neither o = refl
+
+pub next_of_other : (bytes : List ℕ) {kind : ℕ} → kind ≡ raw_kind bytes → {ro : Role} → ro ≡ nesting_role kind → opens ro ≡ false → 0 ≡ next_by (record_links bytes)
+unfolding record_links nesting_role_of
+next_of_other bytes k {ro} e n = rw (sym k, sym e) (by ro n)
+  where
+    by : (ro : Role) → opens ro ≡ false → 0 ≡ next_by (links_by_role ro bytes)
+    by Opens n = cc
+    by Closes n = refl
+    by Neither n = refl
 
 -- what is left of the plan, with a record in front
-plan_left : List ℕ → ℕ → Landing → Result ℕ Refusal
+abbrev pub plan_left : List ℕ → ℕ → Landing → Result ℕ Refusal
 plan_left s first here = result_and (nexts_of (landing_at s first) (read_of s here.at).recs) (Ok (here.to + sum_by size (read_of s here.at).recs))
 
 -- The loop's invariant: what is left of the plan is the plan.
@@ -36,15 +76,19 @@ pub record Planning (s : List ℕ) (first : ℕ) (here known : Landing) : Type 0
   pub readable : AllReadable (read_of s here.at).recs
   pub left : plan_left s first here ≡ plan_of s first
 
+pub planning_first : (s : List ℕ) (first : ℕ) → AllReadable (read_of s first).recs → Planning s first (record { at = first; to = first }) (record { at = first; to = first })
+unfolding plan_of
+planning_first s first h = record { here_lands = omega arith; known_lands = first_lands s first; readable = h; left = refl }
+
 module _ {s : List ℕ} {first : ℕ} {here known : Landing} (g : Planning s first here known) where
   pub at_end : {p : ℕ} → (scan_of s here.at).step ≡ Ok (N.End p) → Ok here.to ≡ plan_of s first
-  unfolding nexts_of plan_left
+  unfolding nexts_of
   at_end {p} e =
       let none : here.to + 0 ≡ here.to = omega arith in
       rw (read_by s here.at (Ok (N.End p)) e, none) at g.left
 
   pub at_refused : {x : Refusal} → (scan_of s here.at).step ≡ Err x → Ok here.to ≡ plan_of s first
-  unfolding nexts_of plan_left
+  unfolding nexts_of
   at_refused {x} e =
       let none : here.to + 0 ≡ here.to = omega arith in
       rw (read_by s here.at (Err x) e, none) at g.left
@@ -53,22 +97,28 @@ module _ {s : List ℕ} {first : ℕ} {here known : Landing} (g : Planning s fir
     pub readable_here : Readable (bytes_at s it)
     readable_here = (rw (read_by s here.at (Ok (N.Record it)) e) at g.readable).0
 
+    -- its next, read from its bytes as they are lent
+    pub next_here : {next : ℕ} → next ≡ next_by (record_links (take (it.next - it.start) (drop it.start s))) → next ≡ next_by (record_links (bytes_at s it))
+    next_here n = let long : it.next - it.start ≡ it.len = omega (arith, step_fits s here.at it e) in rw long at n
+
     pub behind_fits : here.to + 2 + it.len ≤ it.next
     behind_fits = omega (arith, g.here_lands, step_fits s here.at it e)
 
     module _ {next : ℕ} (n : next ≡ next_by (record_links (bytes_at s it))) where
-      pub at_wrong : ¬ (next ≡ 0) → is_some (landing_at s first next) ≡ false → Err (WrongNext it.index) ≡ plan_of s first
-      unfolding nexts_of plan_left
-      at_wrong z w = ?
+      pub at_wrong : (eqb next 0 || is_some (landing_at s first next)) ≡ false → Err (WrongNext it.index) ≡ plan_of s first
+      unfolding nexts_of
+      at_wrong w = rw (read_by s here.at (Ok (N.Record it)) e, sym n, w) at g.left
 
       pub goes_on : {k : Landing} → (eqb next 0 || is_some (landing_at s first next)) ≡ true → Lands s first k →
           Planning s first (record { at = it.next; to = here.to + 2 + it.len }) k
-      unfolding nexts_of plan_left
+      unfolding nexts_of
       goes_on b l =
           let y = read_by s here.at (Ok (N.Record it)) e in
+          let sizes : here.to + 2 + it.len + sum_by size (read_of s it.next).recs ≡ here.to + sum_by size (rec_at s (scan_of s here.at) it ∷ (read_of s it.next).recs) =
+              grind (arith, common_steps, bytes-length s here.at it e) in
           record {
             here_lands = behind_fits;
             known_lands = l;
             readable = (rw y at g.readable).1;
-            left = ?;
+            left = ap (λ (k : ℕ). result_and (nexts_of (landing_at s first) (read_of s it.next).recs) (Ok k)) sizes ∙ (rw (y, sym n, b) at g.left);
           }
