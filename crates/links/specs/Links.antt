@@ -54,12 +54,13 @@ links_by bytes (Err e) = None
 unfoldable pub links_of : List ℕ → Option Links
 links_of bytes = links_by bytes (decode bytes)
 
--- the record with these links in the place of its own
+-- the record with these links in the place of its own: the parent and the next, and the end
+abbrev pub with_parent_and_next : Links → List ℕ → List ℕ
+with_parent_and_next l bytes =
+    cond (has_next (raw_kind bytes)) (put_u32 next_at l.next (put_u32 parent_at l.parent bytes)) (put_u32 parent_at l.parent bytes)
+
 unfoldable pub with_links : Links → List ℕ → List ℕ
-with_links l bytes =
-    put_u32 end_at l.end
-    (cond (has_next (raw_kind bytes)) (put_u32 next_at l.next (put_u32 parent_at l.parent bytes))
-    (put_u32 parent_at l.parent bytes))
+with_links l bytes = put_u32 end_at l.end (with_parent_and_next l bytes)
 
 -- The links of the typed records that open a scope, by their fields. A parent or a next that is none is 0.
 abbrev pub linked : ℕ → ℕ → ℕ → Links

@@ -1,4 +1,5 @@
 pub mod Squeeze
+pub mod Squeezes
 pub mod Landing
 pub mod Plan
-pub mod Squeezes
+pub mod Write

@@ -1,6 +1,7 @@
 -- Squeezing out filler (document 02, M-103).
 use Rattle.std.specs.Prelude.{ℕ, ◌+◌, List, [], ◌∷◌, ◌++◌, length, take, drop, cond, ◌||◌, ltb, eqb, Option, None, Some, unwrap_or, is_some, Result, Ok, Err}
 use Rattle.std.specs.Result.{result_and}
+use Rattle.common.specs.Bytes.{put}
 use Rattle.common.specs.declared.Refusal.{Refusal}
 use Rattle.common.specs.declared.Refusal.TheVariants.{WrongNext, NoRoom}
 use Rattle.constants.specs.Raw.{nesting_role_of}
@@ -88,5 +89,5 @@ squeeze_of s start room =
 
 -- "Bytes beyond it, or all after a refusal, keep their values": what the buffer holds after the call
 abbrev pub buffer_by : Result ℕ Refusal → List ℕ → List ℕ → List ℕ
-buffer_by (Ok n) written buffer = written ++ drop n buffer
+buffer_by (Ok n) written buffer = put 0 written buffer
 buffer_by (Err e) written buffer = buffer

@@ -3,19 +3,25 @@
 
 pub mod landing;
 
-ghost use Rattle.std.specs.Prelude.{◌≡◌, ◌||◌, eqb, is_some, length};
+ghost use Rattle.std.specs.Prelude.{◌≡◌, ◌≤◌, ◌<◌, ◌+◌, true, ◌||◌, eqb, is_some, List, [], length};
+ghost use Rattle.common.specs.Bytes.{put, put_u32};
 ghost use Rattle.constants.specs.Raw.{raw_kind};
 ghost use Rattle.iter.specs.Reading.{read_of};
-ghost use Rattle.squeezing.specs.Squeeze.{record_links, next_by};
+ghost use Rattle.links.specs.Links.{has_next};
+ghost use Rattle.check_nesting.specs.Nesting.{Nests};
+ghost use Rattle.squeezing.specs.Squeeze.{moved_link, record_links, next_by};
 ghost use Rattle.squeezing.specs.Landing.{Lands, landing_at};
 ghost use Rattle.squeezing.specs.Plan.{plan_of, Readable, AllReadable};
+ghost use Rattle.squeezing.specs.Write.{squeezed_at, put_parent_and_next};
 
+use arrayvec::ArrayVec;
+use chain::MAX_DEPTH;
 use common::Refusal;
-use common::number::Number;
+use common::number::{Number, put_u32};
 use constants::Role;
 use iter::{Next, Record};
 use landing::{Landing, landing_of};
-use links::NEXT_AT;
+use links::{END_AT, NEXT_AT, PARENT_AT};
 
 /// The next of a record, whose bytes are lent with it, 0 where it has none.
 fn next_of(r: Record, rec: &[u8]) -> usize
@@ -64,6 +70,81 @@ fn plan(s: &[u8], first: usize) -> Result<usize, Refusal>
                     return Err(Refusal::WrongNext(r.index));
                 }
                 here = here.behind(r);
+            }
+        }
+    }
+}
+
+/// A link, moved to where the record that it names lands; 0 stays.
+fn moved(s: &[u8], first: usize, known: &mut Landing, link: usize) -> usize
+    requires { Lands s.now first known.old }
+    ensures moved { result ≡ moved_link (landing_at s.now first) link }
+    ensures known { Lands s.now first known.new }
+{
+    if link == 0 {
+        return 0;
+    }
+    landing_of(s, first, known, link).unwrap_or(0)
+}
+
+/// Puts a position in a link.
+fn put_link(buffer: &mut [u8], at: usize, position: usize)
+    requires within { at + 4 ≤ length buffer.old }
+    requires fits { position < 4294967296 }
+    ensures { buffer.new ≡ put_u32 at position buffer.old }
+{
+    put_u32(buffer, at, position as u32);
+}
+
+/// Puts the parent and the next in an opener of this kind, whose bytes stand from `at` on.
+fn put_parent_and_next(buffer: &mut [u8], kind: u16, at: usize, parent: usize, next: usize)
+    requires within { at + 10 ≤ length buffer.old }
+    requires next_within { has_next kind ≡ true → at + 14 ≤ length buffer.old }
+    requires fits { (parent < 4294967296) × (next < 4294967296) }
+    ensures { buffer.new ≡ put_parent_and_next kind at parent next buffer.old }
+{
+    put_link(buffer, at + PARENT_AT, parent);
+    if links::has_next(kind) {
+        put_link(buffer, at + NEXT_AT, next);
+    }
+}
+
+/// Writes the squeezed stream. An end is written when its closer is met: until then it stands as it was.
+#[tactic(auto, using(iter::proofs::Steps::start_le_next, iter::proofs::Steps::next_within, iter::proofs::Steps::less_left, iter::proofs::Steps::lent_kind))]
+fn write(s: &[u8], first: usize, buffer: &mut [u8])
+    requires within { first ≤ length s.now }
+    requires nests { Nests (read_of s.now first).recs [] }
+    requires room { length (squeezed_at s.now first) ≤ length buffer.old }
+    ensures { buffer.new ≡ put 0 (squeezed_at s.now first) buffer.old }
+{
+    buffer[..first].copy_from_slice(&s[..first]);
+    let mut open: ArrayVec<usize, MAX_DEPTH> = ArrayVec::new();
+    let mut here = Landing::first(first);
+    let mut known = here;
+    // By position: a step's record is found where it lies.
+    loop {
+        match iter::step(s, here.at) {
+            Err(_) => return,
+            Ok(Next::End(_)) => return,
+            Ok(Next::Record(r)) => {
+                let next = next_of(r, &s[r.start..r.next]);
+                let next = moved(s, first, &mut known, next);
+                let to = here.to;
+                here = here.behind(r);
+                buffer[to..here.to].copy_from_slice(&s[r.index..r.next]);
+                match constants::nesting_role(r.kind) {
+                    Role::Neither => {}
+                    Role::Opens => {
+                        let parent = open.last().map_or(0, |opener| *opener);
+                        put_parent_and_next(buffer, r.kind, to + 2, parent, next);
+                        open.push(to);
+                    }
+                    Role::Closes => {
+                        if let Some(opener) = open.pop() {
+                            put_link(buffer, opener + 2 + END_AT, to);
+                        }
+                    }
+                }
             }
         }
     }
