@@ -1,8 +1,10 @@
-// What every layer stands on: the refusal that calls answer with, and the numbers that are read from lent bytes (pdb's src/common.rs).
+// What every layer stands on: the refusal that calls answer with, the numbers that are read from lent bytes (pdb's src/common.rs), and
+// bytes that are put in the place of others.
 #![tactic(auto)]
 
 pub mod buffer;
 pub mod number;
+pub mod put;
 
 ghost use Rattle.std.specs.Prelude.{◌≡◌};
 ghost use Rattle.common.specs.Refused.{refusal_number, refusal_position, refusal_detail};

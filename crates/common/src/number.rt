@@ -2,7 +2,7 @@
 #![tactic(auto, unfolding(crate::specs::Bytes::le, crate::specs::Bytes::signed))]
 
 ghost use Rattle.std.specs.Prelude.{◌≡◌, ◌+◌, ◌≤◌, ℕ, length};
-ghost use Rattle.common.specs.Bytes.{le, signed, put_u32};
+ghost use Rattle.common.specs.Bytes.{le, signed};
 
 /// A number that can be read from bytes.
 pub trait Number: Copy {
@@ -112,13 +112,4 @@ impl Number for i64 {
     fn at(s: &[u8], at: usize) -> Self {
         u64::at(s, at).cast_signed()
     }
-}
-
-/// Puts a number in the place of the four bytes at a position.
-#[tactic(auto, unfolding(crate::specs::Bytes::put))]
-pub fn put_u32(bytes: &mut [u8], at: usize, x: u32)
-    requires { at + 4 ≤ length bytes.old }
-    ensures { bytes.new ≡ put_u32 at x bytes.old }
-{
-    bytes[at..at + 4].copy_from_slice(&x.to_le_bytes());
 }

@@ -17,7 +17,8 @@ ghost use Rattle.squeezing.specs.Write.{squeezed_at, put_parent_and_next};
 use arrayvec::ArrayVec;
 use chain::MAX_DEPTH;
 use common::Refusal;
-use common::number::{Number, put_u32};
+use common::number::Number;
+use common::put::{put, put_u32};
 use constants::Role;
 use iter::{Next, Record};
 use landing::{Landing, landing_of};
@@ -117,8 +118,8 @@ fn write(s: &[u8], first: usize, buffer: &mut [u8])
     requires room { length (squeezed_at s.now first) ≤ length buffer.old }
     ensures { buffer.new ≡ put 0 (squeezed_at s.now first) buffer.old }
 {
-    buffer[..first].copy_from_slice(&s[..first]);
-    let mut open: ArrayVec<usize, MAX_DEPTH> = ArrayVec::new();
+    put(buffer, 0, &s[..first]);
+    let mut openers: ArrayVec<usize, MAX_DEPTH> = ArrayVec::new();
     let mut here = Landing::first(first);
     let mut known = here;
     // By position: a step's record is found where it lies.
@@ -131,16 +132,16 @@ fn write(s: &[u8], first: usize, buffer: &mut [u8])
                 let next = moved(s, first, &mut known, next);
                 let to = here.to;
                 here = here.behind(r);
-                buffer[to..here.to].copy_from_slice(&s[r.index..r.next]);
+                put(buffer, to, &s[r.index..r.next]);
                 match constants::nesting_role(r.kind) {
                     Role::Neither => {}
                     Role::Opens => {
-                        let parent = open.last().map_or(0, |opener| *opener);
+                        let parent = openers.last().map_or(0, |opener| *opener);
                         put_parent_and_next(buffer, r.kind, to + 2, parent, next);
-                        open.push(to);
+                        openers.push(to);
                     }
                     Role::Closes => {
-                        if let Some(opener) = open.pop() {
+                        if let Some(opener) = openers.pop() {
                             put_link(buffer, opener + 2 + END_AT, to);
                         }
                     }
