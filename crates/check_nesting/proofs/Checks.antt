@@ -119,11 +119,11 @@ module _ {s : List ℕ} {start : ℕ} {stack : List Open} {n : Counts} {at : ℕ
       sym (total_last n (length stack) c.fillers c.filler_bytes ends t.inv.deep) ∙ ap (total n (length stack)) (sym here) ∙ t.inv.counts in
       λ i. answer_by (left_on here i) (k i)
 
--- the stack without its last opener
-popped : (st : List Open) → reverse (take (length st - 1) st) ≡ tail (reverse st)
-popped st = subst (λ (l : List Open). reverse (take (length l - 1) l) ≡ tail (reverse st)) (reverse-reverse st) (by (reverse st))
+-- a stack without its last member
+pub popped : {A : Type 0} (st : List A) → reverse (take (length st - 1) st) ≡ tail (reverse st)
+popped {A} st = subst (λ (l : List A). reverse (take (length l - 1) l) ≡ tail (reverse st)) (reverse-reverse st) (by (reverse st))
   where
-    by : (l : List Open) → reverse (take (length (reverse l) - 1) (reverse l)) ≡ tail l
+    by : (l : List A) → reverse (take (length (reverse l) - 1) (reverse l)) ≡ tail l
     by [] = refl
     by (o ∷ l) = grind (arith, common_steps, reverse-cons o l)
 

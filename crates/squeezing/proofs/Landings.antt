@@ -1,6 +1,6 @@
 -- Laws of where records land.
 -- Assumes nothing.
-use Rattle.std.proofs.Common.{ℕ, ◌+◌, ◌-◌, ◌≤◌, ◌<◌, ◌≡◌, refl, sym, ap, ◌∙◌, arith, List, [], ◌∷◌, length, cond, eqb-true, ne_eqb, Bool, true, false, Option, None, Some, Result, Ok, Err}
+use Rattle.std.proofs.Common.{ℕ, ◌+◌, ◌-◌, ◌≤◌, ◌<◌, ◌≡◌, refl, sym, ap, ◌∙◌, arith, List, [], ◌∷◌, length, cond, eqb-true, eq-eqb, ne_eqb, Bool, true, false, Option, None, Some, Result, Ok, Err}
 use Rattle.std.specs.Prelude.{eqb}
 use Rattle.std.proofs.lemmas.Grind.{common_steps}
 use Rattle.common.specs.declared.Refusal.{Refusal}
@@ -112,6 +112,20 @@ found s =
 pub found_lands : (s : List ℕ) (first : ℕ) (from : Landing) (i p : ℕ) → Lands s first from → lands_from from.to (read_of s from.at).recs i ≡ Some p →
     Lands s first (record { at = i; to = p })
 found_lands s first from i p g h = let k = found s from.at from.to i p g.low h in record { low = k.low; later = λ x m. k.later x m ∙ g.later x (omega (arith, k.behind)) }
+
+-- a record that a step yields lands here, and the later ones behind it
+module _ {s : List ℕ} {first : ℕ} {here : Landing} (g : Lands s first here) {it : Record} (e : (scan_of s here.at).step ≡ Ok (N.Record it)) where
+  pub lands_here : landing_at s first it.index ≡ Some here.to
+  lands_here = sym (g.later it.index (omega (arith, step_fits s here.at it e))) ∙ lands_by s here it e it.index ∙ rw (eq-eqb it.index it.index refl) refl
+
+  pub lands_behind : Lands s first (record { at = it.next; to = here.to + 2 + it.len })
+  lands_behind =
+      record {
+        low = omega (arith, g.low, step_fits s here.at it e);
+        later = λ i m.
+            let other : ¬ (it.index ≡ i) = λ z. omega (arith, step_fits s here.at it e) in
+            sym (rw (ne_eqb it.index i other) at (lands_by s here it e i)) ∙ g.later i (omega (arith, step_fits s here.at it e));
+      }
 
 -- where the first record begins, by what the first step says
 module _ (s : List ℕ) (start : ℕ) where

@@ -1,7 +1,365 @@
--- Laws of the writing loop.
+-- Laws of the writing loop: what is written is the squeezed stream, but for the ends of the openers that are not closed yet.
 -- Assumes nothing.
-use Rattle.std.proofs.Common.{ℕ, ◌+◌, ◌≤◌, ◌≡◌, List, length}
+use Rattle.std.proofs.Common.{ℕ, ◌+◌, ◌-◌, ◌≤◌, ◌<◌, ◌^◌, ◌≡◌, refl, sym, ap, ◌∙◌, subst, arith, List, [], ◌∷◌, ◌++◌, append_assoc, append-nil, map, reverse, length, length-append, length-take-le, length-drop, take, drop, Option, None, Some, Ok, Err, true, ne_eqb}
+use Rattle.std.specs.Prelude.{IsSome}
+use mathlib.Core.List.{tail}
+use lib.Seq.{take-add, take-append_seam, take-append-add, drop-append-add, drop-drop}
+use Rattle.std.proofs.lemmas.List.{length-reverse, length-map, reverse-append}
+use Rattle.std.proofs.lemmas.Grind.{common_steps}
+use Rattle.std.specs.Int.{w32, to_le_bytes}
+use Rattle.common.specs.declared.Refusal.{Refusal}
+use Rattle.common.specs.Bytes.{put, put_u32}
+use Rattle.common.proofs.Bytes.{length_put}
+use Rattle.constants.specs.Raw.{nesting_role_of}
+use Rattle.constants.specs.declared.Role.TheVariants.{Neither, Opens, Closes}
+use Rattle.iter.specs.Step.{scan_of}
+use Rattle.iter.specs.Reading.{Rec, Reading, bytes_at, rec_at, read_of}
+use Rattle.iter.specs.declared.Record.{Record}
+use Rattle.iter.specs.declared.Next.TheVariants as N
+use Rattle.iter.proofs.Reading.{step_fits, read_by}
+use Rattle.iter.proofs.Records.{bytes-length}
+use Rattle.links.specs.Links.{links_of, with_parent_and_next, with_links}
+use Rattle.links.specs.declared.Links.{Links}
+use Rattle.links.proofs.Relinked.{links_within, with_links_length}
+use Rattle.check_nesting.specs.declared.act.Open.{Open}
+use Rattle.check_nesting.proofs.Checks.{popped}
+use Rattle.check_nesting.specs.Stack.{open_scope, inner_index}
+use Rattle.check_nesting.specs.Nesting.{Nests, done, passes, opens, closes}
 use Rattle.squeezing.specs.declared.landing.Landing.{Landing}
+use Rattle.squeezing.specs.Squeeze.{moved_link, moved_links, record_links, next_by, moved, row}
+use Rattle.squeezing.specs.Landing.{landing_at, Lands}
+use Rattle.squeezing.specs.Plan.{Readable}
+use Rattle.squeezing.specs.Write.{squeezed_at, put_parent_and_next, innermost}
+use Rattle.squeezing.proofs.Landings.{lands_here, lands_behind, first_lands}
 
+-- bytes put behind those that are written, within what is behind those, and within them
+put_end : (out xs old : List ℕ) {n : ℕ} → length out ≡ n → put n xs (out ++ drop n old) ≡ (out ++ xs) ++ drop (n + length xs) old
+unfolding put
+put_end out xs old {n} e =
+    rw (sym e, take-append_seam out (drop (length out) old), drop-append-add out (drop (length out) old) (length xs), drop-drop (length xs) (length out) old) refl
+
+put_behind : (out xs bytes : List ℕ) (at : ℕ) {n : ℕ} → length out ≡ n → put (n + at) xs (out ++ bytes) ≡ out ++ put at xs bytes
+unfolding put
+put_behind out xs bytes at {n} e =
+    let on : length out + at + length xs ≡ length out + (at + length xs) = omega arith in
+    rw (sym e, on, take-append-add out bytes at, drop-append-add out bytes (at + length xs)) (simp append_assoc)
+
+put_before : (out xs bytes : List ℕ) (at : ℕ) → at + length xs ≤ length out → put at xs (out ++ bytes) ≡ put at xs out ++ bytes
+unfolding put
+put_before out xs bytes at fits = grind (arith, common_steps)
+
+-- what is written, with the ends of these openers put in, which are not written yet
+unfoldable pub patched : (ℕ → Option ℕ) → List Open → List ℕ → List ℕ
+patched to [] out = out
+patched to (o ∷ st) out = patched to st (put_u32 (moved_link to o.index + 2 + 6) (moved_link to o.end) out)
+
+-- the ends of these openers stand before a position
+abbrev pub Below : (ℕ → Option ℕ) → ℕ → List Open → Type 0
+Below to n [] = Unit
+Below to n (o ∷ st) = (moved_link to o.index + 2 + 10 ≤ n) × Below to n st
+
+below_more : (to : ℕ → Option ℕ) (st : List Open) {n m : ℕ} → n ≤ m → Below to n st → Below to m st
+below_more to [] l b = tt
+below_more to (o ∷ st) l b = let h = b.0 in (omega arith, below_more to st l b.1)
+
+module _ (to : ℕ → Option ℕ) where
+  patched_length : (st : List Open) (out : List ℕ) → Below to (length out) st → length (patched to st out) ≡ length out
+  unfolding patched
+  patched_length [] out b = refl
+  patched_length (o ∷ st) out b =
+      let here : moved_link to o.index + 2 + 10 ≤ length out = b.0 in
+      let long = length_put (moved_link to o.index + 2 + 6) (to_le_bytes w32 (moved_link to o.end)) out (omega arith) in
+      patched_length st (put_u32 (moved_link to o.index + 2 + 6) (moved_link to o.end) out) (below_more to st (omega arith) b.1) ∙ long
+
+  patched_append : (st : List Open) (out bytes : List ℕ) → Below to (length out) st → patched to st (out ++ bytes) ≡ patched to st out ++ bytes
+  unfolding patched
+  patched_append [] out bytes b = refl
+  patched_append (o ∷ st) out bytes b =
+      let here : moved_link to o.index + 2 + 10 ≤ length out = b.0 in
+      let long = length_put (moved_link to o.index + 2 + 6) (to_le_bytes w32 (moved_link to o.end)) out (omega arith) in
+      ap (patched to st) (put_before out (to_le_bytes w32 (moved_link to o.end)) bytes (moved_link to o.index + 2 + 6) (omega arith))
+      ∙ patched_append st (put_u32 (moved_link to o.index + 2 + 6) (moved_link to o.end) out) bytes (below_more to st (omega arith) b.1)
+
+-- The loop's invariant. The stack holds the openers that are open, and the code where they land, the innermost last.
 pub record Writing (s : List ℕ) (first : ℕ) (old buffer openers : List ℕ) (here known : Landing) : Type 0 where
-  pub long : length buffer ≡ length old
+  pub st : List Open
+  pub out : List ℕ
+  pub nests : Nests (read_of s here.at).recs st
+  pub here_lands : Lands s first here
+  pub known_lands : Lands s first known
+  pub places : reverse openers ≡ map (λ o. moved_link (landing_at s first) o.index) st
+  pub below : Below (landing_at s first) here.to st
+  pub long : length out ≡ here.to
+  pub written : buffer ≡ out ++ drop here.to old
+  pub left : patched (landing_at s first) st out ++ row s (landing_at s first) (read_of s here.at).recs ≡ squeezed_at s first
+  pub room : length (squeezed_at s first) ≤ length old
+
+pub writing_first : (s : List ℕ) (first : ℕ) (old : List ℕ) → first ≤ length s → Nests (read_of s first).recs [] → length (squeezed_at s first) ≤ length old →
+    Writing s first old (put 0 (take first s) old) [] (record { at = first; to = first }) (record { at = first; to = first })
+unfolding squeezed_at patched put
+writing_first s first old within nests room =
+    let long : length (take first s) ≡ first = length-take-le first s within in
+    record {
+      st = [];
+      out = take first s;
+      nests = nests;
+      here_lands = first_lands s first;
+      known_lands = first_lands s first;
+      places = refl;
+      below = tt;
+      long = long;
+      written = ap (λ n. take first s ++ drop n old) (let n : 0 + length (take first s) ≡ first = omega arith in n);
+      left = refl;
+      room = room;
+    }
+
+-- what the next record is where records nest
+readable : {r : Rec} {rs : List Rec} {st : List Open} → Nests (r ∷ rs) st → Readable r.bytes
+readable (passes n d) o = cc
+readable (opens n e z p m d) o = subst IsSome (sym e) refl
+readable (closes n e d) o = cc
+
+at_neither : {r : Rec} {rs : List Rec} {st : List Open} → Nests (r ∷ rs) st → nesting_role_of r.bytes ≡ Neither → Nests rs st
+at_neither (passes n d) o = d
+at_neither (opens n e z p m d) o = cc
+at_neither (closes n e d) o = cc
+
+record Opened (r : Rec) (rs : List Rec) (st : List Open) : Type 0 where
+  links : Links
+  read : links_of r.bytes ≡ Some links
+  above : 0 < r.index
+  parent : links.parent ≡ inner_index st
+  few : length st < 64
+  rest : Nests rs (open_scope r.index links ∷ st)
+
+at_opener : {r : Rec} {rs : List Rec} {st : List Open} → Nests (r ∷ rs) st → nesting_role_of r.bytes ≡ Opens → Opened r rs st
+at_opener (passes n d) o = cc
+at_opener (opens {l = l} n e z p m d) o = record { links = l; read = e; above = z; parent = p; few = m; rest = d }
+at_opener (closes n e d) o = cc
+
+record Closed (r : Rec) (rs : List Rec) (st : List Open) : Type 0 where
+  inner : Open
+  outer : List Open
+  is : st ≡ inner ∷ outer
+  end : inner.end ≡ r.index
+  rest : Nests rs outer
+
+at_closer : {r : Rec} {rs : List Rec} {st : List Open} → Nests (r ∷ rs) st → nesting_role_of r.bytes ≡ Closes → Closed r rs st
+at_closer (passes n d) o = cc
+at_closer (opens n e z p m d) o = cc
+at_closer (closes {o = x} {st = st} n e d) o = record { inner = x; outer = st; is = refl; end = e; rest = d }
+
+all_closed : {st : List Open} → Nests [] st → st ≡ []
+all_closed done = refl
+
+-- a record with its links moved, by its role; it is as long as it was
+module _ (to : ℕ → Option ℕ) where
+  moved_neither : (bytes : List ℕ) → nesting_role_of bytes ≡ Neither → moved to bytes ≡ bytes
+  unfolding moved record_links
+  moved_neither bytes o = rw o refl
+
+  moved_closer : (bytes : List ℕ) → nesting_role_of bytes ≡ Closes → moved to bytes ≡ bytes
+  unfolding moved record_links
+  moved_closer bytes o = rw o refl
+
+  moved_opener : (bytes : List ℕ) {l : Links} → nesting_role_of bytes ≡ Opens → links_of bytes ≡ Some l → moved to bytes ≡ with_links (moved_links to l) bytes
+  unfolding moved record_links
+  moved_opener bytes o e = rw (o, e) refl
+
+  moved_length : {r : Rec} {rs : List Rec} {st : List Open} → Nests (r ∷ rs) st → length (moved to r.bytes) ≡ length r.bytes
+  moved_length (passes {r = r} n d) = ap length (moved_neither r.bytes n)
+  moved_length (opens {r = r} {l = l} n e z p m d) = ap length (moved_opener r.bytes n e) ∙ with_links_length r.bytes n e (moved_links to l)
+  moved_length (closes {r = r} n e d) = ap length (moved_closer r.bytes n)
+
+module _ {s : List ℕ} {first : ℕ} {old buffer openers : List ℕ} {here known : Landing} (g : Writing s first old buffer openers here known) where
+  -- nothing is left
+  ended : (read_of s here.at).recs ≡ [] → buffer ≡ put 0 (squeezed_at s first) old
+  unfolding patched put row
+  ended none =
+      let closed : g.st ≡ [] = all_closed (subst (λ rs. Nests rs g.st) none g.nests) in
+      let out : g.out ≡ squeezed_at s first = sym (append-nil g.out) ∙ (rw (none, closed) at g.left) in
+      let end : here.to ≡ 0 + length (squeezed_at s first) = omega (arith, ap length out, g.long) in
+      g.written ∙ (λ i. out i ++ drop (end i) old)
+
+  pub at_end : {p : ℕ} → (scan_of s here.at).step ≡ Ok (N.End p) → buffer ≡ put 0 (squeezed_at s first) old
+  at_end {p} e = ended (ap (λ (r : Reading). r.recs) (read_by s here.at (Ok (N.End p)) e))
+
+  pub at_refused : {x : Refusal} → (scan_of s here.at).step ≡ Err x → buffer ≡ put 0 (squeezed_at s first) old
+  at_refused {x} e = ended (ap (λ (r : Reading). r.recs) (read_by s here.at (Err x) e))
+
+  module _ {it : Record} (e : (scan_of s here.at).step ≡ Ok (N.Record it)) where
+    abbrev rec : Rec
+    rec = rec_at s (scan_of s here.at) it
+
+    nests_here : Nests (rec ∷ (read_of s it.next).recs) g.st
+    nests_here = subst (λ rs. Nests rs g.st) (ap (λ (r : Reading). r.recs) (read_by s here.at (Ok (N.Record it)) e)) g.nests
+
+    pub readable_here : Readable (bytes_at s it)
+    readable_here = readable nests_here
+
+    pub behind_fits : here.to + 2 + it.len ≤ it.next
+    behind_fits = omega (arith, g.here_lands.low, step_fits s here.at it e)
+
+    -- the record with its length field, as it stands in the stream
+    abbrev head : List ℕ
+    head = take 2 (drop it.index s)
+
+    abbrev frame : List ℕ
+    frame = take (it.next - it.index) (drop it.index s)
+
+    frame_is : frame ≡ head ++ bytes_at s it
+    frame_is =
+        let y = step_fits s here.at it e in
+        let long : it.next - it.index ≡ 2 + it.len = omega (arith, y) in
+        let start : it.index + 2 ≡ it.start = sym y.starts in
+        ap (λ n. take n (drop it.index s)) long
+        ∙ take-add 2 it.len (drop it.index s)
+        ∙ ap (λ x. head ++ take it.len x) (drop-drop 2 it.index s ∙ ap (λ n. drop n s) start)
+
+    head_length : length head ≡ 2
+    head_length = length-take-le 2 (drop it.index s) (omega (arith, length-drop it.index s, step_fits s here.at it e))
+
+    frame_length : length frame ≡ 2 + it.len
+    frame_length = rw frame_is (omega (arith, length-append head (bytes_at s it), head_length, bytes-length s here.at it e))
+
+    -- what is left, with the record written
+    left : patched (landing_at s first) g.st (g.out ++ (head ++ moved (landing_at s first) (bytes_at s it))) ++ row s (landing_at s first) (read_of s it.next).recs ≡ squeezed_at s first
+    unfolding row
+    left =
+        let to : ℕ → Option ℕ = landing_at s first in
+        let rest : List ℕ = row s to (read_of s it.next).recs in
+        ap (λ x. x ++ rest) (patched_append to g.st g.out (head ++ moved to (bytes_at s it)) (below_more to g.st (omega (arith, g.long)) g.below))
+        ∙ append_assoc (patched to g.st g.out) (head ++ moved to (bytes_at s it)) rest
+        ∙ (rw (read_by s here.at (Ok (N.Record it)) e) at g.left)
+
+    moved_long : length (moved (landing_at s first) (bytes_at s it)) ≡ it.len
+    moved_long = moved_length (landing_at s first) nests_here ∙ bytes-length s here.at it e
+
+    pub fits : here.to + 2 + it.len ≤ length old
+    fits =
+        let to : ℕ → Option ℕ = landing_at s first in
+        let out : List ℕ = g.out ++ (head ++ moved to (bytes_at s it)) in
+        let long : length out ≡ here.to + 2 + it.len =
+            length-append g.out (head ++ moved to (bytes_at s it)) ∙ omega (arith, length-append head (moved to (bytes_at s it)), head_length, moved_long, g.long) in
+        let whole = length-append (patched to g.st out) (row s to (read_of s it.next).recs) in
+        omega (arith, ap length left, patched_length to g.st out (below_more to g.st (omega arith) g.below), g.room)
+
+    copied : put here.to frame buffer ≡ (g.out ++ (head ++ bytes_at s it)) ++ drop (here.to + 2 + it.len) old
+    copied =
+        let end : here.to + length frame ≡ here.to + 2 + it.len = omega (arith, frame_length) in
+        ap (put here.to frame) g.written ∙ put_end g.out frame old g.long ∙ (λ i. (g.out ++ frame_is i) ++ drop (end i) old)
+
+    abbrev behind : Landing
+    behind = record { at = it.next; to = here.to + 2 + it.len }
+
+    -- the invariant behind the record, with these openers open and this written
+    next_turn : {bs os : List ℕ} {k : Landing} (st : List Open) (out : List ℕ) → Nests (read_of s it.next).recs st → Lands s first k →
+        reverse os ≡ map (λ o. moved_link (landing_at s first) o.index) st → Below (landing_at s first) behind.to st → length out ≡ behind.to →
+        bs ≡ out ++ drop behind.to old → patched (landing_at s first) st out ++ row s (landing_at s first) (read_of s it.next).recs ≡ squeezed_at s first →
+        Writing s first old bs os behind k
+    next_turn st out n k p b l w left =
+        record {
+          st = st;
+          out = out;
+          nests = n;
+          here_lands = lands_behind g.here_lands e;
+          known_lands = k;
+          places = p;
+          below = b;
+          long = l;
+          written = w;
+          left = left;
+          room = g.room;
+        }
+
+    out_length : (bytes : List ℕ) → length bytes ≡ it.len → length (g.out ++ (head ++ bytes)) ≡ behind.to
+    out_length bytes l = length-append g.out (head ++ bytes) ∙ omega (arith, length-append head bytes, head_length, g.long)
+
+    below_behind : Below (landing_at s first) behind.to g.st
+    below_behind = below_more (landing_at s first) g.st (omega arith) g.below
+
+    -- a record that opens no scope and closes none
+    pub neither : {bs : List ℕ} {k : Landing} → nesting_role_of (bytes_at s it) ≡ Neither → bs ≡ put here.to frame buffer → Lands s first k → Writing s first old bs openers behind k
+    neither o w k =
+        next_turn g.st (g.out ++ (head ++ bytes_at s it)) (at_neither nests_here o) k g.places below_behind (out_length (bytes_at s it) (bytes-length s here.at it e)) (w ∙ copied)
+        (rw (moved_neither (landing_at s first) (bytes_at s it) o) at left)
+
+    -- a closer: the end of its opener is written
+    module _ (o : nesting_role_of (bytes_at s it) ≡ Closes) where
+      closed : Closed rec (read_of s it.next).recs g.st
+      closed = at_closer nests_here o
+
+      places_are : reverse openers ≡ moved_link (landing_at s first) closed.inner.index ∷ map (λ o. moved_link (landing_at s first) o.index) closed.outer
+      places_are = g.places ∙ ap (map (λ o. moved_link (landing_at s first) o.index)) closed.is
+
+      inner_place : innermost (reverse openers) ≡ moved_link (landing_at s first) closed.inner.index
+      inner_place = ap innermost places_are
+
+      pub inner_within : innermost (reverse openers) + 2 + 10 ≤ here.to
+      inner_within = rw inner_place (rw closed.is at g.below).0
+
+      -- the end of the opener is here
+      end_place : moved_link (landing_at s first) closed.inner.end ≡ here.to
+      end_place =
+          let above : ¬ (it.index ≡ 0) = λ z. omega (arith, inner_within, g.here_lands.low, step_fits s here.at it e) in
+          rw (closed.end, lands_here g.here_lands e, ne_eqb it.index 0 above) refl
+
+      pub closes_turn : {bs os : List ℕ} {k : Landing} → bs ≡ put_u32 (innermost (reverse openers) + 2 + 6) here.to (put here.to frame buffer) → os ≡ take (length openers - 1) openers → Lands s first k →
+          Writing s first old bs os behind k
+      closes_turn w q k =
+          let at : ℕ = innermost (reverse openers) + 2 + 6 in
+          let four : List ℕ = to_le_bytes w32 here.to in
+          let long = out_length (bytes_at s it) (bytes-length s here.at it e) in
+          let before = put_before g.out four (head ++ bytes_at s it) at (omega (arith, inner_within, g.long)) in
+          next_turn closed.outer (put_u32 at here.to (g.out ++ (head ++ bytes_at s it))) closed.rest k
+          (ap reverse q ∙ popped openers ∙ ap tail places_are)
+          (rw closed.is at below_behind).1
+          (length_put at four (g.out ++ (head ++ bytes_at s it)) (omega (arith, inner_within, long)) ∙ long)
+          (w ∙ ap (put_u32 at here.to) copied ∙ put_before (g.out ++ (head ++ bytes_at s it)) four (drop behind.to old) at (omega (arith, inner_within, long)))
+          (ap (λ x. patched (landing_at s first) closed.outer x ++ row s (landing_at s first) (read_of s it.next).recs) ?
+          ∙ ap (λ st. patched (landing_at s first) st (g.out ++ (head ++ bytes_at s it)) ++ row s (landing_at s first) (read_of s it.next).recs) (sym closed.is)
+          ∙ (rw (moved_closer (landing_at s first) (bytes_at s it) o) at left))
+
+    -- an opener: its parent and its next are written, and it waits for its end
+    module _ (o : nesting_role_of (bytes_at s it) ≡ Opens) where
+      opened : Opened rec (read_of s it.next).recs g.st
+      opened = at_opener nests_here o
+
+      pub within : here.to + 2 + 10 ≤ behind.to
+      within = omega (arith, links_within (bytes_at s it) o opened.read, bytes-length s here.at it e)
+
+      pub push_room : length openers < 64
+      push_room =
+          omega (arith, opened.few, ap length g.places, length-reverse openers, length-map g.st (λ o. moved_link (landing_at s first) o.index))
+
+      inner_place : innermost (reverse openers) ≡ moved_link (landing_at s first) opened.links.parent
+      inner_place = ap innermost g.places ∙ by g.st ∙ ap (moved_link (landing_at s first)) (sym opened.parent)
+        where
+          by : (st : List Open) → innermost (map (λ o. moved_link (landing_at s first) o.index) st) ≡ moved_link (landing_at s first) (inner_index st)
+          by [] = refl
+          by (o ∷ st) = refl
+
+      own_place : moved_link (landing_at s first) it.index ≡ here.to
+      own_place = let above : ¬ (it.index ≡ 0) = λ z. omega (arith, opened.above) in rw (lands_here g.here_lands e, ne_eqb it.index 0 above) refl
+
+      -- the links of the record, moved, but for its end
+      abbrev half : List ℕ
+      half = with_parent_and_next (moved_links (landing_at s first) opened.links) (bytes_at s it)
+
+      half_length : length half ≡ it.len
+      half_length = ?
+
+      half_put : {next : ℕ} → next ≡ moved_link (landing_at s first) (next_by (record_links (bytes_at s it))) →
+          put_parent_and_next it.kind (here.to + 2) (innermost (reverse openers)) next (put here.to frame buffer) ≡ (g.out ++ (head ++ half)) ++ drop behind.to old
+      half_put n = ?
+
+      pub opens_turn : {bs os : List ℕ} {k : Landing} {next : ℕ} → next ≡ moved_link (landing_at s first) (next_by (record_links (bytes_at s it))) →
+          bs ≡ put_parent_and_next it.kind (here.to + 2) (innermost (reverse openers)) next (put here.to frame buffer) → os ≡ openers ++ here.to ∷ [] → Lands s first k →
+          Writing s first old bs os behind k
+      opens_turn n w q k =
+          next_turn (open_scope it.index opened.links ∷ g.st) (g.out ++ (head ++ half)) opened.rest k
+          (ap reverse q ∙ reverse-append openers (here.to ∷ []) ∙ (λ i. own_place (~ i) ∷ g.places i))
+          (?, below_behind)
+          (out_length half half_length)
+          (w ∙ half_put n)
+          ?

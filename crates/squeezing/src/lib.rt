@@ -3,7 +3,7 @@
 
 pub mod landing;
 
-ghost use Rattle.std.specs.Prelude.{◌≡◌, ◌≤◌, ◌<◌, ◌+◌, true, ◌||◌, eqb, is_some, List, [], length};
+ghost use Rattle.std.specs.Prelude.{◌≡◌, ◌≤◌, ◌<◌, ◌+◌, true, ◌||◌, eqb, is_some, List, [], reverse, length};
 ghost use Rattle.common.specs.Bytes.{put, put_u32};
 ghost use Rattle.constants.specs.Raw.{raw_kind};
 ghost use Rattle.iter.specs.Reading.{read_of};
@@ -12,7 +12,7 @@ ghost use Rattle.check_nesting.specs.Nesting.{Nests};
 ghost use Rattle.squeezing.specs.Squeeze.{moved_link, record_links, next_by};
 ghost use Rattle.squeezing.specs.Landing.{Lands, landing_at};
 ghost use Rattle.squeezing.specs.Plan.{plan_of, Readable, AllReadable};
-ghost use Rattle.squeezing.specs.Write.{squeezed_at, put_parent_and_next};
+ghost use Rattle.squeezing.specs.Write.{squeezed_at, put_parent_and_next, innermost};
 
 use arrayvec::ArrayVec;
 use chain::MAX_DEPTH;
@@ -110,6 +110,13 @@ fn put_parent_and_next(buffer: &mut [u8], kind: u16, at: usize, parent: usize, n
     }
 }
 
+/// Where the innermost of the openers lands, which are listed with the innermost last; 0 where none is.
+fn innermost(openers: &[usize]) -> usize
+    ensures { result ≡ innermost (reverse openers.now) }
+{
+    openers.last().map_or(0, |opener| *opener)
+}
+
 /// Writes the squeezed stream. An end is written when its closer is met: until then it stands as it was.
 #[tactic(auto, using(iter::proofs::Steps::start_le_next, iter::proofs::Steps::next_within, iter::proofs::Steps::less_left, iter::proofs::Steps::lent_kind))]
 fn write(s: &[u8], first: usize, buffer: &mut [u8])
@@ -136,14 +143,12 @@ fn write(s: &[u8], first: usize, buffer: &mut [u8])
                 match constants::nesting_role(r.kind) {
                     Role::Neither => {}
                     Role::Opens => {
-                        let parent = openers.last().map_or(0, |opener| *opener);
-                        put_parent_and_next(buffer, r.kind, to + 2, parent, next);
+                        put_parent_and_next(buffer, r.kind, to + 2, innermost(&openers), next);
                         openers.push(to);
                     }
                     Role::Closes => {
-                        if let Some(opener) = openers.pop() {
-                            put_link(buffer, opener + 2 + END_AT, to);
-                        }
+                        put_link(buffer, innermost(&openers) + 2 + END_AT, to);
+                        openers.pop();
                     }
                 }
             }
