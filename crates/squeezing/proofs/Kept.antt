@@ -14,7 +14,7 @@ use Rattle.check_nesting.proofs.Moving.{Named, EachNamed, EachIndex, Moves, Each
 use Rattle.check_nesting.proofs.Moving as M
 use Rattle.squeezing.specs.Squeeze.{lands_from, moved_link, moved_links, record_links, moved, next_by, nexts_of}
 use Rattle.squeezing.specs.Squeezes.{SameRecord, LinkMoved, KeptBy, EachKept}
-use Rattle.squeezing.proofs.Moved.{moved_role, moved_other, links_read, moved_opener, links_moved}
+use Rattle.squeezing.proofs.Moved.{record_links_is, moved_is, moved_role, moved_opener, links_moved}
 use Rattle.squeezing.proofs.Squeezed.{Landed, none, both}
 
 -- a record that lands is found where it does
@@ -92,11 +92,11 @@ module _ (to : ℕ → Option ℕ) (small : (x : ℕ) → moved_link to x < 2 ^ 
               read' = ap links_of b ∙ links_moved to r.bytes o n.read small;
               parent = link_kept n.links.parent n.parent;
               end = link_kept n.links.end n.end;
-              next = link_kept n.links.next (rw (links_read r.bytes o n.read) at next);
+              next = link_kept n.links.next (rw (record_links_is r.bytes o, n.read) at next);
               same = b ∙ moved_opener to r.bytes o n.read;
             }
-        by Closes o = b ∙ moved_other to r.bytes o refl
-        by Neither o = b ∙ moved_other to r.bytes o refl
+        by Closes o = b ∙ moved_is to r.bytes o
+        by Neither o = b ∙ moved_is to r.bytes o
 
     pub each_kept : {at : ℕ} {left left' : List Rec} → Landed to at left left' → EachNamed (IsNamed to) left → nexts_of to left ≡ Ok tt → EachKept rs ts left left'
     unfolding nexts_of

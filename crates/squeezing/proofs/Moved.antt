@@ -12,24 +12,27 @@ use Rattle.links.specs.declared.Links.{Links}
 use Rattle.links.proofs.Relinked.{links_is, with_links_length, with_links_kind, links_of_with_links}
 use Rattle.squeezing.specs.Squeeze.{moved_link, moved_links, links_by_role, record_links, moved_by, moved}
 
-pub links_read : (bytes : List ℕ) {l : Links} → nesting_role_of bytes ≡ Opens → links_of bytes ≡ Some l → record_links bytes ≡ Some l
+pub record_links_is : (bytes : List ℕ) {ro : Role} → nesting_role_of bytes ≡ ro → record_links bytes ≡ links_by_role ro bytes
 unfolding record_links
-links_read bytes opens read = rw opens read
+record_links_is bytes o = rw o
 
 module _ (to : ℕ → Option ℕ) (bytes : List ℕ) where
+  pub moved_is : {ro : Role} → nesting_role_of bytes ≡ ro → moved to bytes ≡ moved_by to bytes (links_by_role ro bytes)
+  unfolding moved
+  moved_is o = rw (record_links_is bytes o)
+
   -- what holds of the record, and of it with links in the place of its own, holds of it moved
   moved-ind : (P : List ℕ → Type 0) → P bytes → ((l : Links) → nesting_role_of bytes ≡ Opens → links_of bytes ≡ Some l → P (with_links (moved_links to l) bytes)) → P (moved to bytes)
-  unfolding moved record_links
   moved-ind P own relinked = by_role (nesting_role_of bytes) refl
     where
-      by : (o : Option Links) → links_of bytes ≡ o → nesting_role_of bytes ≡ Opens → P (moved_by to bytes o)
-      by (Some l) e opens = relinked l opens e
-      by None e opens = own
+      by : nesting_role_of bytes ≡ Opens → (o : Option Links) → links_of bytes ≡ o → P (moved_by to bytes o)
+      by opens (Some l) e = relinked l opens e
+      by opens None e = own
 
-      by_role : (ro : Role) → nesting_role_of bytes ≡ ro → P (moved_by to bytes (links_by_role ro bytes))
-      by_role Opens o = by (links_of bytes) refl o
-      by_role Closes o = own
-      by_role Neither o = own
+      by_role : (ro : Role) → nesting_role_of bytes ≡ ro → P (moved to bytes)
+      by_role Opens o = rw (moved_is o) (by o (links_of bytes) refl)
+      by_role Closes o = rw (moved_is o) own
+      by_role Neither o = rw (moved_is o) own
 
   pub moved_length : length (moved to bytes) ≡ length bytes
   moved_length = moved-ind (λ b. length b ≡ length bytes) refl (λ l o e. with_links_length bytes o e (moved_links to l))
@@ -45,14 +48,9 @@ module _ (to : ℕ → Option ℕ) (bytes : List ℕ) where
   unfolding nesting_role_of
   moved_role = ap nesting_role moved_kind
 
-  pub moved_other : {ro : Role} → nesting_role_of bytes ≡ ro → links_by_role ro bytes ≡ None → moved to bytes ≡ bytes
-  unfolding moved record_links
-  moved_other o none = rw (o, none) refl
-
   module _ {l : Links} (opens : nesting_role_of bytes ≡ Opens) (read : links_of bytes ≡ Some l) where
     pub moved_opener : moved to bytes ≡ with_links (moved_links to l) bytes
-    unfolding moved
-    moved_opener = rw (links_read bytes opens read) refl
+    moved_opener = moved_is opens ∙ rw read
 
     pub links_moved : ((x : ℕ) → moved_link to x < 2 ^ 32) → links_of (moved to bytes) ≡ Some (moved_links to l)
     links_moved small =

@@ -64,62 +64,56 @@ pub data Landed (to : ℕ → Option ℕ) : ℕ → List Rec → List Rec → Ty
   none : {at : ℕ} → Landed to at [] []
   both : {at : ℕ} {r t : Rec} {rs ts : List Rec} → t.index ≡ at → t.bytes ≡ moved to r.bytes → Landed to (at + size r) rs ts → Landed to at (r ∷ rs) (t ∷ ts)
 
+behind_is : (to : ℕ → Option ℕ) (bytes : List ℕ) (at : ℕ) → at + 2 + length (moved to bytes) ≡ at + (2 + length bytes)
+behind_is to bytes at = omega (arith, moved_length to bytes)
+
 landed_laid : (s : List ℕ) (to : ℕ → Option ℕ) (rs : List Rec) (at : ℕ) → Landed to at rs (laid at (pieces s to rs))
 landed_laid s to [] at = none
-landed_laid s to (r ∷ rs) at =
-    let on : at + 2 + length (moved to r.bytes) ≡ at + size r = omega (arith, moved_length to r.bytes) in
-    both refl refl (rw on (landed_laid s to rs (at + size r)))
+landed_laid s to (r ∷ rs) at = both refl refl (rw (behind_is to r.bytes at) (landed_laid s to rs (at + size r)))
 
 no_fillers_laid : (fs : List Piece) (at : ℕ) → NoFillers (laid at fs)
 no_fillers_laid [] at = tt
 no_fillers_laid (f ∷ fs) at = (refl, no_fillers_laid fs (at + 2 + length f.body))
 
--- what is read of the squeezed stream
-pub record Reads (s : List ℕ) (start : ℕ) (r : Rec) (rs : List Rec) (t : List ℕ) : Type 0 where
+-- The readings of a stream whose records are r and rs, and of the squeezed one.
+pub record Reads (s : List ℕ) (start : ℕ) (t : List ℕ) : Type 0 where
+  pub r : Rec
+  pub rs : List Rec
   pub first : Rec
   pub others : List Rec
+  pub records : (read_of s start).recs ≡ r ∷ rs
   pub read : read_of t start ≡ to_end (first ∷ others)
   pub landed : Landed (lands (r ∷ rs)) r.index (r ∷ rs) (first ∷ others)
   pub no_fillers : NoFillers others
   pub small : (x : ℕ) → moved_link (lands (r ∷ rs)) x < 2 ^ 32
   pub before : take start t ≡ take start s
 
--- a stream of which a step yields the first record, and the reading by that step
-module _ (s : List ℕ) (start : ℕ) {it : Record} (e : (scan_of s start).step ≡ Ok (N.Record it)) where
-  abbrev pub first_read : Rec
-  first_read = rec_at s (scan_of s start) it
-
-  abbrev pub others_read : List Rec
-  others_read = (read_of s it.next).recs
-
-  pub records_read : (read_of s start).recs ≡ first_read ∷ others_read
-  records_read = ap (λ (x : Reading). x.recs) (read_by s start (Ok (N.Record it)) e)
-
-  pub squeezed_reads : Reads s start first_read others_read (squeezed s start)
-  unfolding squeezed squeezed_from lands
-  squeezed_reads =
-      let r = first_read in
-      let rs = others_read in
-      let to = lands (r ∷ rs) in
-      let y = step_fits s start it e in
-      let w : Wholes s (r ∷ rs) = subst (Wholes s) records_read (wholes s start) in
-      let ri : Rising start (r ∷ rs) = subst (Rising start) records_read (rising s start) in
-      let is : squeezed s start ≡ take it.index s ++ R.row (pieces s to (r ∷ rs)) =
-      ap (squeezed_from s) records_read ∙ ap (λ x. take it.index s ++ x) (row_is s to (r ∷ rs)) in
-      let front : length (take it.index s) ≡ it.index = length-take-le it.index s (omega arith) in
-      let long : length (squeezed s start) ≤ length s =
-      rw (is, length-append, front) (row_within s to (r ∷ rs) it.index (omega arith) (omega arith, ri.1) w) in
-      let on : it.index + 2 + length (moved to r.bytes) ≡ it.index + size r = omega (arith, moved_length to r.bytes) in
-      record {
-        first = _;
-        others = _;
-        read =
-            read_kept s (squeezed s start) start it e _ _ (sounds s to (r ∷ rs) w) is
-            (moved_number to r.bytes w.0.fits.least ∙ sym w.0.fits.kind_is ∙ (own s start it e).fits.kind_is)
-            (moved_length to r.bytes ∙ bytes-length s start it e)
-            (omega (arith, y, long));
-        landed = both refl refl (rw on (landed_laid s to rs (it.index + size r)));
-        no_fillers = no_fillers_laid _ _;
-        small = λ x. let l = lands_within s (r ∷ rs) it.index it.index x (omega arith, ri.1) w (omega arith) (omega arith) in grind (arith, common_steps, l, y);
-        before = ap (take start) is ∙ take-append-le start (take it.index s) _ (omega arith) ∙ take-take start it.index s (omega arith);
-      }
+pub squeezed_reads : (s : List ℕ) (start : ℕ) {it : Record} → (scan_of s start).step ≡ Ok (N.Record it) → Reads s start (squeezed s start)
+unfolding squeezed squeezed_from lands
+squeezed_reads s start {it} e =
+    let r = rec_at s (scan_of s start) it in
+    let rs = (read_of s it.next).recs in
+    let to = lands (r ∷ rs) in
+    let y = step_fits s start it e in
+    let records : (read_of s start).recs ≡ r ∷ rs = ap (λ (x : Reading). x.recs) (read_by s start (Ok (N.Record it)) e) in
+    let w : Wholes s (r ∷ rs) = subst (Wholes s) records (wholes s start) in
+    let ri : Rising it.index (r ∷ rs) = (omega arith, (subst (Rising start) records (rising s start)).1) in
+    let is : squeezed s start ≡ take it.index s ++ R.row (pieces s to (r ∷ rs)) = ap (squeezed_from s) records ∙ rw (row_is s to (r ∷ rs)) in
+    let front : length (take it.index s) ≡ it.index = length-take-le it.index s (omega arith) in
+    let long : length (squeezed s start) ≤ length s = rw (is, length-append, front) (row_within s to (r ∷ rs) it.index (omega arith) ri w) in
+    record {
+      r = r;
+      rs = rs;
+      first = _;
+      others = _;
+      records = records;
+      read =
+          read_kept s (squeezed s start) start it e _ _ (sounds s to (r ∷ rs) w) is
+          (moved_number to r.bytes w.0.fits.least ∙ sym w.0.fits.kind_is ∙ (own s start it e).fits.kind_is)
+          (moved_length to r.bytes ∙ bytes-length s start it e)
+          (omega (arith, y, long));
+      landed = both refl refl (rw (behind_is to r.bytes it.index) (landed_laid s to rs (it.index + size r)));
+      no_fillers = no_fillers_laid _ _;
+      small = λ x. grind (arith, common_steps, lands_within s (r ∷ rs) it.index it.index x ri w (omega arith) (omega arith), y);
+      before = ap (take start) is ∙ take-append-le start (take it.index s) _ (omega arith) ∙ take-take start it.index s (omega arith);
+    }

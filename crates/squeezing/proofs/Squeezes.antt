@@ -1,12 +1,12 @@
 -- Squeezing leaves a stream that passes the check, with the same records but for moved links, and no filler behind the first.
 -- Assumes nothing.
-use Rattle.std.proofs.Common.{ℕ, ◌≡◌, refl, sym, ap, ◌∙◌, List, [], ◌∷◌, length, take, drop, take_at, Bool, true, false, cond, Result, Ok, Err}
+use Rattle.std.proofs.Common.{ℕ, ◌≡◌, refl, sym, ap, ◌∙◌, List, [], ◌∷◌, ◌++◌, length, take, drop, take_at, Bool, true, false, cond, Result, Ok, Err}
 use Rattle.std.specs.Prelude.{ltb, IfOk}
 use Rattle.std.specs.Result.{result_and}
 use Rattle.common.specs.declared.Refusal.{Refusal}
 use Rattle.common.specs.declared.Refusal.TheVariants.{NoRoom}
 use Rattle.iter.specs.Step.{scan_of}
-use Rattle.iter.specs.Reading.{Rec, Reading, read_of}
+use Rattle.iter.specs.Reading.{Reading, read_of}
 use Rattle.iter.specs.declared.Next.{Next}
 use Rattle.iter.specs.declared.Record.{Record}
 use Rattle.iter.specs.declared.Next.TheVariants as N
@@ -19,7 +19,7 @@ use Rattle.check_nesting.proofs.Nesting.{good_nests, nests_good}
 use Rattle.check_nesting.proofs.Moving.{each_named, nests_moved}
 use Rattle.squeezing.specs.Squeeze.{lands, moved_link, squeezed_from, squeezed, nexts_of, squeeze_of, buffer_by}
 use Rattle.squeezing.specs.Squeezes.{Squeezes}
-use Rattle.squeezing.proofs.Squeezed.{first_read, others_read, records_read, Reads, squeezed_reads}
+use Rattle.squeezing.proofs.Squeezed.{Reads, squeezed_reads}
 use Rattle.squeezing.proofs.Kept.{IsNamed, same_record, each_moves, each_kept}
 
 -- a stream that yields no record is copied whole
@@ -34,19 +34,19 @@ copied_squeezes s start ok none =
       before = refl;
     })
 
--- one whose records are r and rs is read so
-reads_squeezes : (s : List ℕ) (start : ℕ) {n : Counts} (r : Rec) (rs : List Rec) (t : List ℕ) → check_of s start ≡ Ok n →
-    nexts_of (lands (read_of s start).recs) (read_of s start).recs ≡ Ok tt → (read_of s start).recs ≡ r ∷ rs → Reads s start r rs t → Squeezes s start t
+reads_squeezes : (s : List ℕ) (start : ℕ) {n : Counts} (t : List ℕ) → check_of s start ≡ Ok n →
+    nexts_of (lands (read_of s start).recs) (read_of s start).recs ≡ Ok tt → Reads s start t → Squeezes s start t
 unfolding lands
-reads_squeezes s start r rs t ok nexts is q =
-    let to = lands (r ∷ rs) in
-    let nest : Nests (r ∷ rs) [] = rw is at (good_nests s start ok).nests in
-    let ri : Rising start (r ∷ rs) = rw is at (rising s start) in
+reads_squeezes s start t ok nexts q =
+    let to = lands (q.r ∷ q.rs) in
+    let nest : Nests (q.r ∷ q.rs) [] = rw q.records at (good_nests s start ok).nests in
+    let ri : Rising start (q.r ∷ q.rs) = rw q.records at (rising s start) in
     let m = each_moves to q.small start q.landed ri ((λ z. z), (λ z. z)) (λ x l. refl) in
-    let nest_moved : Nests (q.first ∷ q.others) [] = nests_moved (moved_link to) refl m.0 nest in
+    let moved : Nests (q.first ∷ q.others) [] = nests_moved (moved_link to) refl m.0 nest in
+    let named = each_named (IsNamed to) nest m.1 refl in
     record {
-      passes = rw (nests_good t start (record { at_end = rw q.read refl; nests = rw q.read nest_moved }));
-      records = rw (is, q.read) (each_kept to q.small (r ∷ rs) (q.first ∷ q.others) (λ x y. same_record x y q.landed) q.landed (each_named (IsNamed to) nest m.1 refl) (rw is at nexts));
+      passes = rw (nests_good t start (rw q.read (record { at_end = refl; nests = moved })));
+      records = rw (q.records, q.read) (each_kept to q.small _ _ (λ x y. same_record x y q.landed) q.landed named (rw q.records at nexts));
       no_fillers = rw q.read (q.no_fillers, refl);
       before = q.before;
     }
@@ -56,7 +56,7 @@ pub squeezed_squeezes : (s : List ℕ) (start : ℕ) {n : Counts} → check_of s
 squeezed_squeezes s start ok nexts = by (scan_of s start).step refl
   where
     by : (n : Result Next Refusal) → (scan_of s start).step ≡ n → Squeezes s start (squeezed s start)
-    by (Ok (N.Record it)) e = reads_squeezes s start (first_read s start e) (others_read s start e) (squeezed s start) ok nexts (records_read s start e) (squeezed_reads s start e)
+    by (Ok (N.Record it)) e = reads_squeezes s start (squeezed s start) ok nexts (squeezed_reads s start e)
     by (Ok (N.End p)) e = copied_squeezes s start ok (ap (λ (r : Reading). r.recs) (read_by s start (Ok (N.End p)) e))
     by (Err x) e = copied_squeezes s start ok (ap (λ (r : Reading). r.recs) (read_by s start (Err x) e))
 
@@ -70,9 +70,8 @@ call_squeezes s start buffer b (Ok n) e is = by (check_of s start) refl (nexts_o
     by : (c : Result Counts Refusal) → check_of s start ≡ c → (v : Result Unit Refusal) → nexts_of (lands (read_of s start).recs) (read_of s start).recs ≡ v →
         (short : Bool) → Ok n ≡ result_and c (result_and v (cond short (Err NoRoom) (Ok (length (squeezed s start))))) → Squeezes s start (take n b)
     by (Ok c) ok (Ok v) nexts false l =
-        let written : take n b ≡ squeezed s start =
-        ap (take n) (is ∙ ap (λ (x : Result ℕ Refusal). buffer_by x (squeezed s start) buffer) (sym e)) ∙ take_at (squeezed s start) (drop n buffer) n (cc) in
-        rw written (squeezed_squeezes s start ok nexts)
+        let b_is : b ≡ squeezed s start ++ drop n buffer = is ∙ ap (λ x. buffer_by x (squeezed s start) buffer) (sym e) in
+        rw (b_is, take_at (squeezed s start) (drop n buffer) n (cc)) (squeezed_squeezes s start ok nexts)
     by (Ok c) ok (Ok v) nexts true l = cc
     by (Ok c) ok (Err x) nexts short l = cc
     by (Err x) ok v nexts short l = cc
