@@ -1,7 +1,6 @@
 -- Each record of the squeezed stream is the one of the stream that has its place, but for its links, which name what they named.
 -- Assumes nothing.
-use Rattle.std.proofs.Common.{ℕ, ◌+◌, ◌≤◌, ◌<◌, ◌^◌, ◌≡◌, refl, sym, ap, ◌∙◌, arith, List, [], ◌∷◌, length, ◌||◌, eqb, eqb-true, eq-eqb, ne_eqb, is_some, Bool, true, false, cond, inl, inr, Option, None, Some, Result, Ok, Err}
-use Rattle.std.specs.Prelude.{unwrap_or}
+use Rattle.std.proofs.Common.{ℕ, ◌+◌, ◌≤◌, ◌<◌, ◌^◌, ◌≡◌, refl, sym, ap, ◌∙◌, arith, List, length, ◌||◌, eqb, eq-eqb, ne_eqb, is_some, true, Option, Some, Ok}
 use Rattle.std.proofs.lemmas.Grind.{common_steps}
 use Rattle.constants.specs.Raw.{nesting_role_of}
 use Rattle.constants.specs.declared.Role.{Role}
@@ -9,7 +8,6 @@ use Rattle.constants.specs.declared.Role.TheVariants.{Neither, Opens, Closes}
 use Rattle.iter.specs.Reading.{Rec}
 use Rattle.iter.proofs.Records.{Rising}
 use Rattle.links.specs.Links.{links_of}
-use Rattle.check_nesting.specs.Check.{size}
 use Rattle.check_nesting.proofs.Moving.{Named, EachNamed, EachIndex, Moves, EachMoves}
 use Rattle.check_nesting.proofs.Moving as M
 use Rattle.squeezing.specs.Squeeze.{lands_from, moved_link, moved_links, record_links, moved, next_by, nexts_of}
@@ -21,62 +19,35 @@ use Rattle.squeezing.proofs.Squeezed.{Landed, none, both}
 pub same_record : {to : ℕ → Option ℕ} {at : ℕ} {rs ts : List Rec} (x y : ℕ) → Landed to at rs ts → lands_from at rs x ≡ Some y → SameRecord rs ts x y
 unfolding lands_from
 same_record x y none e = cc
-same_record {at = at} x y (both {r = r} {t = t} {rs = rs} {ts = ts} i b d) e = by (eqb r.index x) refl e (same_record x y d)
-  where
-    by : (c : Bool) → eqb r.index x ≡ c → cond c (Some at) (lands_from (at + size r) rs x) ≡ Some y → (lands_from (at + size r) rs x ≡ Some y → SameRecord rs ts x y) → SameRecord (r ∷ rs) (t ∷ ts) x y
-    by true q e ih = inl (eqb-true r.index x q, cc)
-    by false q e ih = inr (ih e)
-
-unless_refused : {A E : Type 0} {y : A} (b : Bool) (r : Result A E) (x : E) → cond b r (Err x) ≡ Ok y → (b ≡ true) × (r ≡ Ok y)
-unless_refused true r x e = (refl, e)
-unless_refused false r x e = cc
+same_record {at = at} x y (both {r = r} {t = t} {rs = rs} {ts = ts} i z b d) e = grind (arith, common_steps, same_record x y d, e, i)
 
 -- a link that is 0 or names a record that lands
 abbrev pub IsNamed : (ℕ → Option ℕ) → ℕ → Type 0
 IsNamed to x = (eqb x 0 || is_some (to x)) ≡ true
 
 module _ (to : ℕ → Option ℕ) (small : (x : ℕ) → moved_link to x < 2 ^ 32) where
-  -- a record that lands at 0 if it was there and only then
-  moves : (r t : Rec) → to r.index ≡ Some t.index → (0 < r.index → 0 < t.index) → (r.index ≡ 0 → t.index ≡ 0) → t.bytes ≡ moved to r.bytes → Moves (moved_link to) r t
-  moves r t place above zero b =
+  moves : (r t : Rec) → to r.index ≡ Some t.index → eqb r.index 0 ≡ eqb t.index 0 → t.bytes ≡ moved to r.bytes → Moves (moved_link to) r t
+  moves r t place zero b =
       record {
-        index = grind (arith, common_steps, place);
-        above = above;
+        index = grind (arith, common_steps, place, zero);
+        above = grind (arith, common_steps, zero);
         role = ap nesting_role_of b ∙ moved_role to r.bytes;
         links = λ o e. ap links_of b ∙ links_moved to r.bytes o e small;
       }
 
-  named : (r : Rec) (at : ℕ) → to r.index ≡ Some at → IsNamed to r.index
-  named r at place = grind (arith, common_steps, place)
-
-  -- the first of the records lands at 0 where it was there
-  abbrev pub AtZero : ℕ → List Rec → Type 0
-  AtZero at [] = Unit
-  AtZero at (r ∷ rs) = (0 < r.index → 0 < at) × (r.index ≡ 0 → at ≡ 0)
-
-  above_zero : (rs : List Rec) (at p : ℕ) → 0 < at → 0 < p → Rising p rs → AtZero at rs
-  above_zero [] at p a z ri = tt
-  above_zero (r ∷ rs) at p a z ri = ((λ _. a), λ e. absurd (omega (arith, ri.0)))
-
-  pub each_moves : {at : ℕ} {rs ts : List Rec} (p : ℕ) → Landed to at rs ts → Rising p rs → AtZero at rs → ((x : ℕ) → p ≤ x → to x ≡ lands_from at rs x) →
+  pub each_moves : {at : ℕ} {rs ts : List Rec} (p : ℕ) → Landed to at rs ts → Rising p rs → ((x : ℕ) → p ≤ x → to x ≡ lands_from at rs x) →
       EachMoves (moved_link to) rs ts × EachIndex (IsNamed to) rs
   unfolding lands_from
-  each_moves p none ri z is = (M.none, tt)
-  each_moves {at = at} p (both {r = r} {t = t} {rs = rs} i b d) ri z is =
-      let here : to r.index ≡ Some at = is r.index ri.0 ∙ rw (eq-eqb r.index r.index refl) refl in
-      let next : ℕ = r.index + 2 + length r.bytes in
-      let on = each_moves next d ri.1 (above_zero rs (at + size r) next (omega arith) (omega arith) ri.1) (λ x l. is x (omega (arith, ri.0)) ∙ rw (ne_eqb r.index x (λ q. omega arith)) refl) in
-      (M.both (moves r t (here ∙ ap Some (sym i)) (λ a. omega (arith, z.0 a)) (λ e. i ∙ z.1 e) b) on.0, (named r at here, on.1))
+  each_moves p none ri is = (M.none, tt)
+  each_moves {at = at} p (both {r = r} {t = t} i z b d) ri is =
+      let here : to r.index ≡ Some at = is r.index ri.0 ∙ rw (eq-eqb r.index r.index refl) in
+      let on = each_moves (r.index + 2 + length r.bytes) d ri.1 (λ x l. is x (omega (arith, ri.0)) ∙ rw (ne_eqb r.index x (λ q. omega arith))) in
+      (M.both (moves r t (here ∙ ap Some (sym i)) z b) on.0, (grind (arith, common_steps, here), on.1))
 
   -- a link
   module _ (rs ts : List Rec) (same : (x y : ℕ) → to x ≡ Some y → SameRecord rs ts x y) where
     link_kept : (x : ℕ) → IsNamed to x → LinkMoved rs ts x (moved_link to x)
-    link_kept x = by (eqb x 0) refl (to x) refl
-      where
-        by : (b : Bool) → eqb x 0 ≡ b → (o : Option ℕ) → to x ≡ o → (b || is_some o) ≡ true → LinkMoved rs ts x (cond b 0 (unwrap_or o 0))
-        by true e o q n = inl (eqb-true x 0 e, refl)
-        by false e (Some y) q n = inr (same x y q)
-        by false e None q n = cc
+    link_kept x n = grind (arith, common_steps, same x, n)
 
     kept : (r t : Rec) → t.bytes ≡ moved to r.bytes → (nesting_role_of r.bytes ≡ Opens → Named (IsNamed to) r.bytes) → IsNamed to (next_by (record_links r.bytes)) →
         KeptBy (nesting_role_of r.bytes) rs ts r.bytes t.bytes
@@ -101,6 +72,6 @@ module _ (to : ℕ → Option ℕ) (small : (x : ℕ) → moved_link to x < 2 ^ 
     pub each_kept : {at : ℕ} {left left' : List Rec} → Landed to at left left' → EachNamed (IsNamed to) left → nexts_of to left ≡ Ok tt → EachKept rs ts left left'
     unfolding nexts_of
     each_kept none n e = tt
-    each_kept (both {r = r} {t = t} {rs = left} i b d) n e =
-        let k : IsNamed to (next_by (record_links r.bytes)) × (nexts_of to left ≡ Ok tt) = unless_refused _ _ _ e in
+    each_kept (both {r = r} {t = t} {rs = left} i z b d) n e =
+        let k : IsNamed to (next_by (record_links r.bytes)) × (nexts_of to left ≡ Ok tt) = grind (arith, common_steps, e) in
         (kept r t b n.0 k.0, each_kept d n.1 k.1)

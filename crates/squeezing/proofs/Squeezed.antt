@@ -1,6 +1,6 @@
 -- Steps over the squeezed stream yield the records one behind the other, their links moved, and nothing is passed over behind the first.
 -- Assumes nothing.
-use Rattle.std.proofs.Common.{ℕ, ◌+◌, ◌≤◌, ◌<◌, ◌^◌, ◌≡◌, refl, sym, ap, ◌∙◌, subst, arith, List, [], ◌∷◌, ◌++◌, length, take, drop, map, length-append, length-take-le, length-drop, append_assoc, add-zero, take-take, Option, Ok}
+use Rattle.std.proofs.Common.{ℕ, ◌+◌, ◌≤◌, ◌<◌, ◌^◌, ◌≡◌, refl, sym, ap, ◌∙◌, subst, arith, List, [], ◌∷◌, ◌++◌, length, take, drop, map, length-append, length-take-le, length-drop, append_assoc, add-zero, take-take, eqb, Option, Ok}
 use Rattle.std.specs.Prelude.{unwrap_or}
 use Rattle.std.proofs.lemmas.Grind.{common_steps}
 use Rattle.std.proofs.lemmas.List.{take-append-le}
@@ -59,17 +59,20 @@ lands_within s [] p at i ri w l h = omega arith
 lands_within s (r ∷ rs) p at i ri w l h =
     grind (arith, common_steps, lands_within s rs (r.index + 2 + length r.bytes) (at + size r) i ri.1 w.1 (omega (arith, ri.0)) w.0.fits.within, w.0.fits)
 
--- Records where they land, from a position on, with their links moved.
+-- Records where they land, from a position on, at 0 exactly where they were there, with their links moved.
 pub data Landed (to : ℕ → Option ℕ) : ℕ → List Rec → List Rec → Type 0 where
   none : {at : ℕ} → Landed to at [] []
-  both : {at : ℕ} {r t : Rec} {rs ts : List Rec} → t.index ≡ at → t.bytes ≡ moved to r.bytes → Landed to (at + size r) rs ts → Landed to at (r ∷ rs) (t ∷ ts)
+  both : {at : ℕ} {r t : Rec} {rs ts : List Rec} → t.index ≡ at → eqb r.index 0 ≡ eqb t.index 0 → t.bytes ≡ moved to r.bytes →
+      Landed to (at + size r) rs ts → Landed to at (r ∷ rs) (t ∷ ts)
 
 behind_is : (to : ℕ → Option ℕ) (bytes : List ℕ) (at : ℕ) → at + 2 + length (moved to bytes) ≡ at + (2 + length bytes)
 behind_is to bytes at = omega (arith, moved_length to bytes)
 
-landed_laid : (s : List ℕ) (to : ℕ → Option ℕ) (rs : List Rec) (at : ℕ) → Landed to at rs (laid at (pieces s to rs))
-landed_laid s to [] at = none
-landed_laid s to (r ∷ rs) at = both refl refl (rw (behind_is to r.bytes at) (landed_laid s to rs (at + size r)))
+landed_laid : (s : List ℕ) (to : ℕ → Option ℕ) (rs : List Rec) (p at : ℕ) → Rising p rs → 0 < p → 0 < at → Landed to at rs (laid at (pieces s to rs))
+landed_laid s to [] p at ri z a = none
+landed_laid s to (r ∷ rs) p at ri z a =
+    both refl (grind (arith, common_steps, ri.0)) refl
+    (rw (behind_is to r.bytes at) (landed_laid s to rs (r.index + 2 + length r.bytes) (at + size r) ri.1 (omega arith) (omega arith)))
 
 no_fillers_laid : (fs : List Piece) (at : ℕ) → NoFillers (laid at fs)
 no_fillers_laid [] at = tt
@@ -112,7 +115,7 @@ squeezed_reads s start {it} e =
           (moved_number to r.bytes w.0.fits.least ∙ sym w.0.fits.kind_is ∙ (own s start it e).fits.kind_is)
           (moved_length to r.bytes ∙ bytes-length s start it e)
           (omega (arith, y, long));
-      landed = both refl refl (rw (behind_is to r.bytes it.index) (landed_laid s to rs (it.index + size r)));
+      landed = both refl refl refl (rw (behind_is to r.bytes it.index) (landed_laid s to rs (it.index + 2 + length r.bytes) (it.index + size r) ri.1 (omega arith) (omega arith)));
       no_fillers = no_fillers_laid _ _;
       small = λ x. grind (arith, common_steps, lands_within s (r ∷ rs) it.index it.index x ri w (omega arith) (omega arith), y);
       before = ap (take start) is ∙ take-append-le start (take it.index s) _ (omega arith) ∙ take-take start it.index s (omega arith);

@@ -1,10 +1,10 @@
 -- Squeezing leaves a stream that passes the check, with the same records but for moved links, and no filler behind the first.
 -- Assumes nothing.
-use Rattle.std.proofs.Common.{ℕ, ◌≡◌, refl, sym, ap, ◌∙◌, List, [], ◌∷◌, ◌++◌, length, take, drop, take_at, Bool, true, false, cond, Result, Ok, Err}
-use Rattle.std.specs.Prelude.{ltb, IfOk}
+use Rattle.std.proofs.Common.{ℕ, ◌≡◌, refl, sym, ap, ◌∙◌, arith, List, [], ◌∷◌, ◌++◌, length, take, drop, take_at, Result, Ok, Err}
+use Rattle.std.specs.Prelude.{IfOk}
 use Rattle.std.specs.Result.{result_and}
+use Rattle.std.proofs.lemmas.Grind.{common_steps}
 use Rattle.common.specs.declared.Refusal.{Refusal}
-use Rattle.common.specs.declared.Refusal.TheVariants.{NoRoom}
 use Rattle.iter.specs.Step.{scan_of}
 use Rattle.iter.specs.Reading.{Reading, read_of}
 use Rattle.iter.specs.declared.Next.{Next}
@@ -17,7 +17,7 @@ use Rattle.check_nesting.specs.declared.Counts.{Counts}
 use Rattle.check_nesting.specs.Nesting.{Nests}
 use Rattle.check_nesting.proofs.Nesting.{good_nests, nests_good}
 use Rattle.check_nesting.proofs.Moving.{each_named, nests_moved}
-use Rattle.squeezing.specs.Squeeze.{lands, moved_link, squeezed_from, squeezed, nexts_of, squeeze_of, buffer_by}
+use Rattle.squeezing.specs.Squeeze.{lands, moved_link, squeezed_from, squeezed, nexts_of, fitting, squeeze_of, buffer_by}
 use Rattle.squeezing.specs.Squeezes.{Squeezes}
 use Rattle.squeezing.proofs.Squeezed.{Reads, squeezed_reads}
 use Rattle.squeezing.proofs.Kept.{IsNamed, same_record, each_moves, each_kept}
@@ -41,7 +41,7 @@ reads_squeezes s start t ok nexts q =
     let to = lands (q.r ∷ q.rs) in
     let nest : Nests (q.r ∷ q.rs) [] = rw q.records at (good_nests s start ok).nests in
     let ri : Rising start (q.r ∷ q.rs) = rw q.records at (rising s start) in
-    let m = each_moves to q.small start q.landed ri ((λ z. z), (λ z. z)) (λ x l. refl) in
+    let m = each_moves to q.small start q.landed ri (λ x l. refl) in
     let moved : Nests (q.first ∷ q.others) [] = nests_moved (moved_link to) refl m.0 nest in
     let named = each_named (IsNamed to) nest m.1 refl in
     record {
@@ -65,13 +65,12 @@ pub call_squeezes : (s : List ℕ) (start : ℕ) (buffer b : List ℕ) (r : Resu
     b ≡ buffer_by (squeeze_of s start (length buffer)) (squeezed s start) buffer → IfOk r (λ n. Squeezes s start (take n b))
 unfolding squeeze_of
 call_squeezes s start buffer b (Err x) e is = tt
-call_squeezes s start buffer b (Ok n) e is = by (check_of s start) refl (nexts_of (lands (read_of s start).recs) (read_of s start).recs) refl (ltb (length buffer) (length (squeezed s start))) e
+call_squeezes s start buffer b (Ok n) e is = by (check_of s start) refl e
   where
-    by : (c : Result Counts Refusal) → check_of s start ≡ c → (v : Result Unit Refusal) → nexts_of (lands (read_of s start).recs) (read_of s start).recs ≡ v →
-        (short : Bool) → Ok n ≡ result_and c (result_and v (cond short (Err NoRoom) (Ok (length (squeezed s start))))) → Squeezes s start (take n b)
-    by (Ok c) ok (Ok v) nexts false l =
+    by : (c : Result Counts Refusal) → check_of s start ≡ c →
+        Ok n ≡ result_and c (result_and (nexts_of (lands (read_of s start).recs) (read_of s start).recs) (fitting (length (squeezed s start)) (length buffer))) → Squeezes s start (take n b)
+    by (Ok c) ok l =
+        let k : (nexts_of (lands (read_of s start).recs) (read_of s start).recs ≡ Ok tt) × (length (squeezed s start) ≡ n) = grind (arith, common_steps, l) in
         let b_is : b ≡ squeezed s start ++ drop n buffer = is ∙ ap (λ x. buffer_by x (squeezed s start) buffer) (sym e) in
-        rw (b_is, take_at (squeezed s start) (drop n buffer) n (cc)) (squeezed_squeezes s start ok nexts)
-    by (Ok c) ok (Ok v) nexts true l = cc
-    by (Ok c) ok (Err x) nexts short l = cc
-    by (Err x) ok v nexts short l = cc
+        rw (b_is, take_at (squeezed s start) (drop n buffer) n k.1) (squeezed_squeezes s start ok k.0)
+    by (Err x) ok l = cc
