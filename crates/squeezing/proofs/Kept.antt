@@ -44,7 +44,7 @@ module _ (to : ℕ → Option ℕ) (small : (x : ℕ) → moved_link to x < 2 ^ 
       let on = each_moves (r.index + 2 + length r.bytes) d ri.1 (λ x l. is x (omega (arith, ri.0)) ∙ rw (ne_eqb r.index x (λ q. omega arith))) in
       (M.both (moves r t (here ∙ ap Some (sym i)) z b) on.0, (grind (arith, common_steps, here), on.1))
 
-  -- a link
+  -- each link names the record that it named
   module _ (rs ts : List Rec) (same : (x y : ℕ) → to x ≡ Some y → SameRecord rs ts x y) where
     link_kept : (x : ℕ) → IsNamed to x → LinkMoved rs ts x (moved_link to x)
     link_kept x n = grind (arith, common_steps, same x, n)

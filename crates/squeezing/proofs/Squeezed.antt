@@ -11,7 +11,7 @@ use Rattle.iter.specs.declared.Record.{Record}
 use Rattle.iter.specs.declared.Next.TheVariants as N
 use Rattle.iter.proofs.Reading.{step_fits, own, read_by}
 use Rattle.iter.proofs.Records.{le_part, bytes-length, Rising, rising}
-use Rattle.iter.proofs.Rows.{Whole, Wholes, wholes, Piece, Sounds, laid, to_end, read_kept}
+use Rattle.iter.proofs.Rows.{Whole, Wholes, wholes, Piece, Sound, Sounds, laid, to_end, read_kept}
 use Rattle.iter.proofs.Rows as R
 use Rattle.check_nesting.specs.Check.{size}
 use Rattle.squeezing.specs.Squeeze.{lands_from, lands, moved_link, moved, row, squeezed_from, squeezed}
@@ -20,37 +20,36 @@ use Rattle.squeezing.proofs.Moved.{moved_length, moved_number}
 
 module _ (s : List ℕ) (to : ℕ → Option ℕ) where
   -- the records as they are written
-  abbrev pub pieces : List Rec → List Piece
-  pieces = map (λ r. record { head = take 2 (drop r.index s); body = moved to r.bytes })
+  abbrev piece : Rec → Piece
+  piece r = record { head = take 2 (drop r.index s); body = moved to r.bytes }
+
+  abbrev pieces : List Rec → List Piece
+  pieces = map piece
 
   row_is : (rs : List Rec) → row s to rs ≡ R.row (pieces rs)
   unfolding row
   row_is [] = refl
   row_is (r ∷ rs) = rw (row_is rs) (append_assoc (take 2 (drop r.index s)) (moved to r.bytes) (R.row (pieces rs)))
 
-  head_two : {r : Rec} → Whole s r → length (take 2 (drop r.index s)) ≡ 2
-  head_two {r} w = length-take-le 2 (drop r.index s) (simp length-drop (omega (arith, w.fits)))
+  sound : {r : Rec} → Whole s r → Sound (piece r)
+  sound {r} w =
+      record {
+        two = length-take-le 2 (drop r.index s) (simp length-drop (omega (arith, w.fits)));
+        len_is = le_part 2 s r.index 2 0 (omega arith) ∙ rw (add-zero r.index) (w.fits.len_is ∙ sym (moved_length to r.bytes));
+        least = omega (arith, moved_length to r.bytes, w.fits);
+        kept = ap is_filler (moved_number to r.bytes w.fits.least) ∙ w.kept;
+      }
 
   sounds : (rs : List Rec) → Wholes s rs → Sounds (pieces rs)
   sounds [] w = tt
-  sounds (r ∷ rs) w =
-      let long = moved_length to r.bytes in
-      let f = w.0.fits in (
-        record {
-          two = head_two w.0;
-          len_is = le_part 2 s r.index 2 0 (omega arith) ∙ rw (add-zero r.index) (f.len_is ∙ sym long);
-          least = omega (arith, f);
-          kept = ap is_filler (moved_number to r.bytes f.least) ∙ w.0.kept;
-        },
-        sounds rs w.1,
-      )
+  sounds (r ∷ rs) w = (sound w.0, sounds rs w.1)
 
   -- it is no longer than the stream
   row_within : (rs : List Rec) (p : ℕ) → p ≤ length s → Rising p rs → Wholes s rs → p + length (R.row (pieces rs)) ≤ length s
   row_within [] p h ri w = omega arith
   row_within (r ∷ rs) p h ri w =
       simp length-append
-      (omega (arith, moved_length to r.bytes, head_two w.0, row_within rs (r.index + 2 + length r.bytes) w.0.fits.within ri.1 w.1))
+      (omega (arith, moved_length to r.bytes, sound w.0, row_within rs (r.index + 2 + length r.bytes) w.0.fits.within ri.1 w.1))
 
 -- no record lands behind where it was
 lands_within : (s : List ℕ) (rs : List Rec) (p at i : ℕ) → Rising p rs → Wholes s rs → at ≤ p → p ≤ length s → unwrap_or (lands_from at rs i) 0 ≤ length s
@@ -65,14 +64,12 @@ pub data Landed (to : ℕ → Option ℕ) : ℕ → List Rec → List Rec → Ty
   both : {at : ℕ} {r t : Rec} {rs ts : List Rec} → t.index ≡ at → eqb r.index 0 ≡ eqb t.index 0 → t.bytes ≡ moved to r.bytes →
       Landed to (at + size r) rs ts → Landed to at (r ∷ rs) (t ∷ ts)
 
-behind_is : (to : ℕ → Option ℕ) (bytes : List ℕ) (at : ℕ) → at + 2 + length (moved to bytes) ≡ at + (2 + length bytes)
-behind_is to bytes at = omega (arith, moved_length to bytes)
-
-landed_laid : (s : List ℕ) (to : ℕ → Option ℕ) (rs : List Rec) (p at : ℕ) → Rising p rs → 0 < p → 0 < at → Landed to at rs (laid at (pieces s to rs))
-landed_laid s to [] p at ri z a = none
-landed_laid s to (r ∷ rs) p at ri z a =
-    both refl (grind (arith, common_steps, ri.0)) refl
-    (rw (behind_is to r.bytes at) (landed_laid s to rs (r.index + 2 + length r.bytes) (at + size r) ri.1 (omega arith) (omega arith)))
+landed_behind : (s : List ℕ) (to : ℕ → Option ℕ) (r : Rec) (rs : List Rec) (at : ℕ) → Rising (r.index + 2 + length r.bytes) rs →
+    Landed to (at + size r) rs (laid (at + 2 + length (moved to r.bytes)) (pieces s to rs))
+landed_behind s to r [] at ri = none
+landed_behind s to r (q ∷ rs) at ri =
+    let here : at + 2 + length (moved to r.bytes) ≡ at + size r = omega (arith, moved_length to r.bytes) in
+    both here (grind (arith, common_steps, ri.0)) refl (rw here (landed_behind s to q rs (at + size r) ri.1))
 
 no_fillers_laid : (fs : List Piece) (at : ℕ) → NoFillers (laid at fs)
 no_fillers_laid [] at = tt
@@ -115,7 +112,7 @@ squeezed_reads s start {it} e =
           (moved_number to r.bytes w.0.fits.least ∙ sym w.0.fits.kind_is ∙ (own s start it e).fits.kind_is)
           (moved_length to r.bytes ∙ bytes-length s start it e)
           (omega (arith, y, long));
-      landed = both refl refl refl (rw (behind_is to r.bytes it.index) (landed_laid s to rs (it.index + 2 + length r.bytes) (it.index + size r) ri.1 (omega arith) (omega arith)));
+      landed = both refl refl refl (landed_behind s to r rs it.index ri.1);
       no_fillers = no_fillers_laid _ _;
       small = λ x. grind (arith, common_steps, lands_within s (r ∷ rs) it.index it.index x ri w (omega arith) (omega arith), y);
       before = ap (take start) is ∙ take-append-le start (take it.index s) _ (omega arith) ∙ take-take start it.index s (omega arith);
