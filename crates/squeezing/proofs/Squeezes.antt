@@ -1,0 +1,76 @@
+-- Squeezing leaves a stream that passes the check, with the same records but for moved links, and no filler behind the first.
+-- Assumes nothing.
+use Rattle.std.proofs.Common.{ℕ, ◌≡◌, refl, sym, ap, ◌∙◌, arith, List, [], ◌∷◌, ◌++◌, length, take, drop, take_at, Result, Ok, Err}
+use Rattle.std.specs.Prelude.{IfOk}
+use Rattle.std.specs.Result.{result_and}
+use Rattle.std.proofs.lemmas.Grind.{common_steps}
+use Rattle.common.specs.declared.Refusal.{Refusal}
+use Rattle.iter.specs.Step.{scan_of}
+use Rattle.iter.specs.Reading.{Reading, read_of}
+use Rattle.iter.specs.declared.Next.{Next}
+use Rattle.iter.specs.declared.Record.{Record}
+use Rattle.iter.specs.declared.Next.TheVariants as N
+use Rattle.iter.proofs.Reading.{read_by}
+use Rattle.iter.proofs.Records.{Rising, rising}
+use Rattle.check_nesting.specs.Check.{check_of}
+use Rattle.check_nesting.specs.declared.Counts.{Counts}
+use Rattle.check_nesting.specs.Nesting.{Nests}
+use Rattle.check_nesting.proofs.Nesting.{good_nests, nests_good}
+use Rattle.check_nesting.proofs.Moving.{each_named, nests_moved}
+use Rattle.squeezing.specs.Squeeze.{lands, moved_link, squeezed_from, squeezed, nexts_of, fitting, squeeze_of, buffer_by}
+use Rattle.squeezing.specs.Squeezes.{Squeezes}
+use Rattle.squeezing.proofs.Squeezed.{Reads, squeezed_reads}
+use Rattle.squeezing.proofs.Kept.{IsNamed, same_record, each_moves, each_kept}
+
+-- a stream that yields no record is copied whole
+copied_squeezes : (s : List ℕ) (start : ℕ) {n : Counts} → check_of s start ≡ Ok n → (read_of s start).recs ≡ [] → Squeezes s start (squeezed s start)
+unfolding squeezed squeezed_from
+copied_squeezes s start ok none =
+    rw none
+    (record {
+      passes = rw ok;
+      records = rw none tt;
+      no_fillers = rw none tt;
+      before = refl;
+    })
+
+reads_squeezes : (s : List ℕ) (start : ℕ) {n : Counts} (t : List ℕ) → check_of s start ≡ Ok n →
+    nexts_of (lands (read_of s start).recs) (read_of s start).recs ≡ Ok tt → Reads s start t → Squeezes s start t
+unfolding lands
+reads_squeezes s start t ok nexts q =
+    let to = lands (q.r ∷ q.rs) in
+    let nest : Nests (q.r ∷ q.rs) [] = rw q.records at (good_nests s start ok).nests in
+    let ri : Rising start (q.r ∷ q.rs) = rw q.records at (rising s start) in
+    let m = each_moves to q.small start q.landed ri (λ x l. refl) in
+    let moved : Nests (q.first ∷ q.others) [] = nests_moved (moved_link to) refl m.0 nest in
+    let named = each_named (IsNamed to) nest m.1 refl in
+    record {
+      passes = rw (nests_good t start (rw q.read (record { at_end = refl; nests = moved })));
+      records = rw (q.records, q.read) (each_kept to q.small _ _ (λ x y. same_record x y q.landed) q.landed named (rw q.records at nexts));
+      no_fillers = rw q.read (q.no_fillers, refl);
+      before = q.before;
+    }
+
+pub squeezed_squeezes : (s : List ℕ) (start : ℕ) {n : Counts} → check_of s start ≡ Ok n →
+    nexts_of (lands (read_of s start).recs) (read_of s start).recs ≡ Ok tt → Squeezes s start (squeezed s start)
+squeezed_squeezes s start ok nexts = by (scan_of s start).step refl
+  where
+    by : (n : Result Next Refusal) → (scan_of s start).step ≡ n → Squeezes s start (squeezed s start)
+    by (Ok (N.Record it)) e = reads_squeezes s start (squeezed s start) ok nexts (squeezed_reads s start e)
+    by (Ok (N.End p)) e = copied_squeezes s start ok (ap (λ (r : Reading). r.recs) (read_by s start (Ok (N.End p)) e))
+    by (Err x) e = copied_squeezes s start ok (ap (λ (r : Reading). r.recs) (read_by s start (Err x) e))
+
+-- what the buffer holds after the call, whose answer is the length written
+pub call_squeezes : (s : List ℕ) (start : ℕ) (buffer b : List ℕ) (r : Result ℕ Refusal) → r ≡ squeeze_of s start (length buffer) →
+    b ≡ buffer_by (squeeze_of s start (length buffer)) (squeezed s start) buffer → IfOk r (λ n. Squeezes s start (take n b))
+unfolding squeeze_of
+call_squeezes s start buffer b (Err x) e is = tt
+call_squeezes s start buffer b (Ok n) e is = by (check_of s start) refl e
+  where
+    by : (c : Result Counts Refusal) → check_of s start ≡ c →
+        Ok n ≡ result_and c (result_and (nexts_of (lands (read_of s start).recs) (read_of s start).recs) (fitting (length (squeezed s start)) (length buffer))) → Squeezes s start (take n b)
+    by (Ok c) ok l =
+        let k : (nexts_of (lands (read_of s start).recs) (read_of s start).recs ≡ Ok tt) × (length (squeezed s start) ≡ n) = grind (arith, common_steps, l) in
+        let b_is : b ≡ squeezed s start ++ drop n buffer = is ∙ ap (λ x. buffer_by x (squeezed s start) buffer) (sym e) in
+        rw (b_is, take_at (squeezed s start) (drop n buffer) n k.1) (squeezed_squeezes s start ok k.0)
+    by (Err x) ok l = cc
