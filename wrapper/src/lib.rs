@@ -253,8 +253,8 @@ pub fn climb(stream: &[u8], i: usize) -> Result<Scopes, Refusal> {
     Ok(Scopes { words })
 }
 
-/// Writes the stream into a buffer without the fillers behind its first record from `start` on, its links moved: the length written. The rest
-/// of the buffer stays as it was, and after a refusal all of it. As much room as the stream takes suffices.
+/// Writes the stream into a buffer, without the fillers behind its first record from `start` on, and with the links moved: the length
+/// written. The rest of the buffer stays as it was, after a refusal all of it. As much room as the stream takes suffices.
 pub fn squeeze(stream: &[u8], start: usize, buffer: &mut [u8]) -> Result<usize, Refusal> {
     let (to, room) = (buffer.as_mut_ptr(), buffer.len());
     let [length, _] = ask(|out| unsafe {
