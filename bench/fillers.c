@@ -1,6 +1,6 @@
 /*
  * Writes a synthetic stream to standard output, three to four fillers on average before each record: procedures with blocks in one another,
- * and in these records of several classes. Links are right, so that the stream passes the nesting check.
+ * and in these records of several classes. Links are right, so that the stream passes the nesting check and can be squeezed.
  */
 #include <stdint.h>
 #include <stdio.h>
@@ -106,6 +106,16 @@ static void set32(uint32_t position, uint32_t number)
     length = back;
 }
 
+/* Each procedure's next is the one behind it, and the last one's 0. */
+static void set_next(uint32_t index)
+{
+    static uint32_t last;
+    if (last)
+        set32(last + 12, index);
+    set32(index + 12, 0);
+    last = index;
+}
+
 /* A procedure, or in one a block. */
 static void scope(uint32_t parent, int depth)
 {
@@ -117,8 +127,10 @@ static void scope(uint32_t parent, int depth)
         put32(below(1000));
     put32(below(1000000));
     put16(1);
-    if (!depth)
+    if (!depth) {
         put("\x80", 1);
+        set_next(index);
+    }
     put_name();
     end(index);
     for (uint32_t records = 1 + below(8); records > 0; records--) {

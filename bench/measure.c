@@ -7,15 +7,7 @@
  * down for a while meets all of them. A pass is made twice in a row and the second time counts: the caches are as the first left them.
  * A time is the median over the rounds, and a ratio the median of the rounds' ratios.
  */
-#define _POSIX_C_SOURCE 199309L /* clock_gettime */
-
-#include <inttypes.h>
-#include <stdio.h>
-#include <stdlib.h>
-#include <string.h>
-#include <time.h>
-
-#include "mitrelilac.h"
+#include "timing.h"
 
 typedef uint32_t step_function(const uint8_t *, size_t, size_t, uint64_t *);
 typedef uint32_t record_function(const uint8_t *, size_t, uint64_t *);
@@ -42,25 +34,12 @@ struct stream {
     struct records sites; /* the annotations of inline sites */
     size_t instructions;  /* how many these hold */
     uint64_t counts[6];   /* what the check says */
+    uint8_t *buffer;      /* for the squeezed stream */
     size_t deepest;       /* the opener within most scopes */
     size_t lasts[SIZES];  /* the last record of a top-level scope: at a 32nd of the stream, a 16th, .., at its end */
     size_t passed[SIZES]; /* the scopes at the top level before that one */
     uint64_t walked[SIZES], jumped[SIZES]; /* the records that are read up to there */
 };
-
-static void fail(const char *what)
-{
-    fprintf(stderr, "measure: %s\n", what);
-    exit(1);
-}
-
-static void *room(size_t count, size_t size)
-{
-    void *room = calloc(count, size);
-    if (!room)
-        fail("no memory");
-    return room;
-}
 
 /* ---- A stream, and that both sides agree about it */
 
@@ -148,6 +127,9 @@ static struct stream load(const char *path)
         fail("the stream does not pass the check");
     read_stream(&s);
     uint64_t out[66];
+    s.buffer = room(s.length + 1, 1);
+    if (mitrelilac_squeeze(s.bytes, s.length, START, s.buffer, s.length, out) != 0)
+        fail("the stream is not squeezed");
     for (int size = 0; size < SIZES; size++) {
         if (mitrelilac_walk(s.bytes, s.length, START, s.lasts[size], out) != 0)
             fail("the stream has no scopes");
@@ -191,6 +173,12 @@ static void check(const struct stream *s)
     mitrelilac_check(s->bytes, s->length, START, out);
 }
 
+static void squeeze(const struct stream *s)
+{
+    uint64_t out[2];
+    mitrelilac_squeeze(s->bytes, s->length, START, s->buffer, s->length, out);
+}
+
 static void walk(const struct stream *s, int size)
 {
     uint64_t out[66];
@@ -212,7 +200,7 @@ static void climb(const struct stream *s)
 
 enum pass {
     STEP, PDB_STEP, DECODE, PDB_DECODE, DECODE_KNOWN, PDB_DECODE_KNOWN, NAME, PDB_NAME,
-    ANNOTATE, PDB_ANNOTATE, CHECK, CLIMB,
+    ANNOTATE, PDB_ANNOTATE, CHECK, SQUEEZE, CLIMB,
     WALK, JUMP = WALK + SIZES, PASSES = JUMP + SIZES
 };
 
@@ -230,24 +218,18 @@ static void make(const struct stream *s, int pass)
     case ANNOTATE: annotate(s, mitrelilac_annotation); break;
     case PDB_ANNOTATE: annotate(s, pdb_annotation); break;
     case CHECK: check(s); break;
+    case SQUEEZE: squeeze(s); break;
     case CLIMB: climb(s); break;
     default: pass < JUMP ? walk(s, pass - WALK) : jump(s, pass - JUMP);
     }
 }
 
-/* ---- Times, in nanoseconds */
+/* ---- Times */
 
 struct times {
     int rounds;
     double *first[PASSES], *again[PASSES];
 };
-
-static double now(void)
-{
-    struct timespec t;
-    clock_gettime(CLOCK_THREAD_CPUTIME_ID, &t);
-    return (double)t.tv_sec * 1e9 + (double)t.tv_nsec;
-}
 
 static struct times measure(const struct stream *s, int rounds)
 {
@@ -269,35 +251,9 @@ static struct times measure(const struct stream *s, int rounds)
     return times;
 }
 
-static int by_size(const void *a, const void *b)
-{
-    double x = *(const double *)a, y = *(const double *)b;
-    return (x > y) - (x < y);
-}
-
-static double median(const double *values, int count)
-{
-    double *sorted = room((size_t)count, sizeof *sorted);
-    memcpy(sorted, values, (size_t)count * sizeof *sorted);
-    qsort(sorted, (size_t)count, sizeof *sorted, by_size);
-    double middle = sorted[count / 2];
-    free(sorted);
-    return middle;
-}
-
 static double time_of(const struct times *times, int pass)
 {
     return median(times->again[pass], times->rounds);
-}
-
-static double ratio(const struct times *times, int pass, int other)
-{
-    double *ratios = room((size_t)times->rounds, sizeof *ratios);
-    for (int round = 0; round < times->rounds; round++)
-        ratios[round] = times->again[pass][round] / times->again[other][round];
-    double middle = median(ratios, times->rounds);
-    free(ratios);
-    return middle;
 }
 
 /* ---- Tables */
@@ -306,7 +262,7 @@ static void row(const struct times *times, const char *what, int pass, const cha
                 const char *wanted)
 {
     printf("| %s | %.2f | %s | %.2f | %.2f | %s |\n", what, time_of(times, pass) / (double)records, against,
-           time_of(times, other) / (double)records, ratio(times, pass, other), wanted);
+           time_of(times, other) / (double)records, ratio(times->again[pass], times->again[other], times->rounds), wanted);
 }
 
 static void report(const char *path, const struct stream *s, const struct times *times)
@@ -326,6 +282,7 @@ static void report(const char *path, const struct stream *s, const struct times 
     if (s->instructions)
         row(times, "annotations, per instruction", ANNOTATE, "pdb's iterator", PDB_ANNOTATE, s->instructions, "1.00");
     row(times, "check", CHECK, "step through all", STEP, all, "2.00");
+    row(times, "squeeze", SQUEEZE, "check", CHECK, all, "");
     row(times, "walk to the last record", walk, "step through all", STEP, walked, "1.30");
     row(times, "jump to the last record", jump, "walk to it", walk, walked, "0.20");
     printf("\nClimb from the deepest opener: %.1f ns, %" PRIu64 " links.\n\n", time_of(times, CLIMB) / CLIMBS, s->counts[5] - 1);

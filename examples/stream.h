@@ -31,6 +31,8 @@ static const char *const reasons[] = {
     [MITRELILAC_NOTHING_THERE] = "no record begins there",
     [MITRELILAC_INVALID_COMPRESSED_ANNOTATION] = "a compressed number is cut off or malformed",
     [MITRELILAC_UNKNOWN_BINARY_ANNOTATION] = "there is no such instruction",
+    [MITRELILAC_WRONG_NEXT] = "a next names no record",
+    [MITRELILAC_NO_ROOM] = "the buffer is too short",
 };
 
 static void refused(const char *what, uint32_t number, const uint64_t *out)

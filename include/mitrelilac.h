@@ -1,7 +1,7 @@
 /*
  * Mitrelilac reads CodeView symbol streams, the records of a Windows PDB's module and symbol streams, says which scopes a record
- * belongs to, and reads the line programs of inlined code. This header is its manual; whole programs are examples/scopes.c and
- * examples/lines.c.
+ * belongs to, reads the line programs of inlined code, and squeezes the fillers out of streams. This header is its manual; whole
+ * programs are examples/scopes.c, examples/lines.c and examples/squeeze.c.
  *
  *     cc -Iinclude program.c target/staticlib/libmitrelilac.a        x86-64 Linux; nothing more than the C library
  *
@@ -22,9 +22,9 @@
  * 0x114e, S_PROC_ID_END 0x114f). An opener's parent field is the index of the opener around it, 0 if there is none, its end field the
  * index of its closer.
  *
- * S_LPROC32_ID (0x1146) is an opener to mitrelilac_check, mitrelilac_walk, mitrelilac_jump and mitrelilac_climb, but not to
- * mitrelilac_kind, which answers as pdb does: who keeps a stack of scopes by mitrelilac_kind pushes at 0x1146 too. S_LPROCMIPS_ID
- * (0x1148) and S_LPROCIA64_ID (0x114a) are openers to none of them.
+ * S_LPROC32_ID (0x1146) is an opener to mitrelilac_check, mitrelilac_walk, mitrelilac_jump, mitrelilac_climb and
+ * mitrelilac_squeeze, but not to mitrelilac_kind, which answers as pdb does: who keeps a stack of scopes by mitrelilac_kind pushes at
+ * 0x1146 too. S_LPROCMIPS_ID (0x1148) and S_LPROCIA64_ID (0x114a) are openers to none of them.
  *
  *
  * RULES OF EVERY CALL
@@ -33,11 +33,11 @@
  *   writes two words: out[0] is the position of the refusal, out[1] its detail, each 0 where the number says nothing of it.
  *   Every other word of `out` stays as it was.
  * - The bytes may come from anywhere and hold anything: each call ends, with the answer or the refusal that is described here.
- * - It only reads the lent bytes, writes nothing but the words just named, keeps no pointer, allocates nothing, and has no state:
- *   any number of threads may call.
+ * - It only reads the lent bytes, writes nothing but the words just named (mitrelilac_squeeze a stream to a buffer, too), keeps no
+ *   pointer, allocates nothing, and has no state: any number of threads may call.
  * - The caller lends `length` bytes that do not change during the call, and as many words as the function's `out` has, at an
- *   address of a uint64_t and apart from the bytes. A pointer is never null. Where there are no bytes, pass any address
- *   that is not null, "" for one, with the length 0.
+ *   address of a uint64_t and apart from the bytes; to mitrelilac_squeeze also a buffer of `room` bytes, apart from both. A pointer is
+ *   never null. Where there are no bytes, pass any address that is not null, "" for one, with the length 0.
  * - A part of the lent bytes, as a name, is given as two words: where it starts, counted from the first of those bytes, and its
  *   length. No zero ends it. Its bytes are as the stream has them, in whatever encoding.
  * - Numbers of fewer bits are words with zeros above; negative ones are extended with their sign: (int64_t)out[n] is the value.
@@ -57,7 +57,10 @@ extern "C" {
 #define MITRELILAC_WORDS(n) static n
 #endif
 
-/* What a call returns. The position (out[0]) and the detail (out[1]) are 0 but where a line here or at the function says more. */
+/*
+ * What a call returns. The position (out[0]) and the detail (out[1]) are 0 but where a line here or at the function says more. The
+ * squeeze begins with the check, and refuses with its numbers alike.
+ */
 enum mitrelilac_number {
     MITRELILAC_ANSWERED = 0,
     MITRELILAC_UNEXPECTED_EOF = 1,            /* the bytes run out; from a step, with its position */
@@ -75,7 +78,9 @@ enum mitrelilac_number {
     MITRELILAC_UNUSABLE_LINK = 13,            /* jump, climb: a link that can't be followed */
     MITRELILAC_NOTHING_THERE = 14,            /* no record begins there, or it is no opener, no register list, or has no such entry */
     MITRELILAC_INVALID_COMPRESSED_ANNOTATION = 15, /* annotation: a number is cut off or malformed, at its first byte */
-    MITRELILAC_UNKNOWN_BINARY_ANNOTATION = 16 /* annotation: no instruction has this code, which is the detail */
+    MITRELILAC_UNKNOWN_BINARY_ANNOTATION = 16, /* annotation: no instruction has this code, which is the detail */
+    MITRELILAC_WRONG_NEXT = 17,               /* squeeze: a next field that is neither 0 nor a record's index, at its opener's index */
+    MITRELILAC_NO_ROOM = 18                   /* squeeze: the buffer is too short */
 };
 
 /*
@@ -195,6 +200,31 @@ uint32_t mitrelilac_jump(const uint8_t *stream, size_t length, size_t start, siz
  *     14  if no record begins at i, or it is no opener
  */
 uint32_t mitrelilac_climb(const uint8_t *stream, size_t length, size_t i, uint64_t out[MITRELILAC_WORDS(66)]);
+
+/*
+ * The squeeze: writes the stream into a buffer, without the fillers, of which incremental links leave many. The first record from
+ * `start` on keeps its position, and what lies before it is copied, fillers too, so that no opener gets to 0. Behind it each record
+ * begins where the one before it ends, and with the last one the squeezed stream ends. Records are copied but for the links of
+ * openers, which name the new positions: parent and end, and of procedures and thunks next; 0 stays. A stream with no record from
+ * `start` on, which may be past the end, is copied whole.
+ *
+ *     out[0]  the length of the squeezed stream, never above `length`
+ *
+ * The first out[0] bytes of the buffer are then the squeezed stream. Those behind them stay as they were, and after a refusal all do.
+ * `length` bytes of room always suffice. Buffer and stream may not overlap.
+ *
+ * From the same start the squeezed stream passes mitrelilac_check, and steps yield the same records in order, but for their moved
+ * links, and pass over no filler behind the first one. This is proved (crates/squeezing/specs/Squeezes.antt).
+ *
+ * Refuses what mitrelilac_check refuses, and alike; and after that
+ *     17  a procedure's or a thunk's next is not 0, and no record from `start` on has that index: the opener's index; of several
+ *         the first in the stream
+ *     18  the squeezed stream is longer than `room`: 0
+ *
+ * A call reads the stream a few times, and once or twice more for each next that names an earlier record than the next before it: on
+ * a stream that was made to have many of these it takes long.
+ */
+uint32_t mitrelilac_squeeze(const uint8_t *stream, size_t length, size_t start, uint8_t *buffer, size_t room, uint64_t out[MITRELILAC_WORDS(2)]);
 
 /* The classes of records: what mitrelilac_decode makes of which kinds. */
 enum mitrelilac_class {

@@ -1,5 +1,5 @@
-//! A safe door to Mitrelilac's static library, which reads CodeView symbol streams, says which scopes a record belongs to, and reads the
-//! line programs of inlined code.
+//! A safe door to Mitrelilac's static library, which reads CodeView symbol streams, says which scopes a record belongs to, reads the line
+//! programs of inlined code, and squeezes the fillers out of streams.
 //! Slices go in, enums and structs come out, nothing is allocated. `include/mitrelilac.h` is the manual.
 //!
 //! ```
@@ -61,13 +61,21 @@ extern "C" {
         out: &mut [u64; 66],
     ) -> u32;
     fn mitrelilac_climb(stream: *const u8, length: usize, i: usize, out: &mut [u64; 66]) -> u32;
+    fn mitrelilac_squeeze(
+        stream: *const u8,
+        length: usize,
+        start: usize,
+        buffer: *mut u8,
+        room: usize,
+        out: &mut [u64; 2],
+    ) -> u32;
     fn mitrelilac_decode(record: *const u8, length: usize, out: &mut [u64; 24]) -> u32;
 }
 
 /// The words of an answer, or the refusal.
 ///
-/// SAFETY of every call below: the pointer and the length are those of a slice, which is never null, and the library reads
-/// nothing else and writes to `out` alone.
+/// SAFETY of every call below: a pointer and a length are those of a slice, which is never null, and the library reads nothing else and
+/// writes to `out` alone; squeezing writes to its buffer too, which is lent as `&mut` and so lies apart.
 fn ask<const N: usize>(call: impl FnOnce(&mut [u64; N]) -> u32) -> Result<[u64; N], Refusal> {
     let mut out = [0; N];
     match call(&mut out) {
@@ -243,4 +251,14 @@ pub fn jump(stream: &[u8], start: usize, i: usize) -> Result<Scopes, Refusal> {
 pub fn climb(stream: &[u8], i: usize) -> Result<Scopes, Refusal> {
     let words = ask(|out| unsafe { mitrelilac_climb(stream.as_ptr(), stream.len(), i, out) })?;
     Ok(Scopes { words })
+}
+
+/// Writes the stream into a buffer, without the fillers behind its first record from `start` on, and with the links moved: the length
+/// written. The rest of the buffer stays as it was, after a refusal all of it. As much room as the stream takes suffices.
+pub fn squeeze(stream: &[u8], start: usize, buffer: &mut [u8]) -> Result<usize, Refusal> {
+    let (to, room) = (buffer.as_mut_ptr(), buffer.len());
+    let [length, _] = ask(|out| unsafe {
+        mitrelilac_squeeze(stream.as_ptr(), stream.len(), start, to, room, out)
+    })?;
+    Ok(length as usize)
 }

@@ -10,7 +10,7 @@ pub struct Refusal {
     pub position: usize,
 }
 
-/// The numbers 1 to 16, in their order.
+/// The numbers 1 to 18, in their order.
 #[derive(Clone, Copy, Debug, PartialEq, Eq)]
 pub enum Reason {
     UnexpectedEof,
@@ -29,6 +29,8 @@ pub enum Reason {
     NothingThere,
     InvalidCompressedAnnotation,
     UnknownBinaryAnnotation(u32),
+    WrongNext,
+    NoRoom,
 }
 
 impl Refusal {
@@ -50,6 +52,8 @@ impl Refusal {
             14 => Reason::NothingThere,
             15 => Reason::InvalidCompressedAnnotation,
             16 => Reason::UnknownBinaryAnnotation(detail as u32),
+            17 => Reason::WrongNext,
+            18 => Reason::NoRoom,
             _ => unreachable!("the library refuses with {number}, which is none of its numbers"),
         };
         let position = position as usize;
@@ -85,6 +89,8 @@ impl fmt::Display for Refusal {
             Reason::UnknownBinaryAnnotation(code) => {
                 write!(f, "no instruction has the code {code}")
             }
+            Reason::WrongNext => write!(f, "the next of a scope names no record"),
+            Reason::NoRoom => write!(f, "the buffer is too short"),
         }?;
         match (self.reason, self.position) {
             // Annotations start at 0, where a number may be cut off as anywhere.
