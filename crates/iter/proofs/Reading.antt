@@ -75,7 +75,7 @@ step_is s at e is = sym e ∙ is
 pub end_is : (s : List ℕ) (at q : ℕ) → (scan_of s at).step ≡ Ok (N.End q) → q ≡ length s
 end_is s at q e = let k : Stops s (within s at + (scan_of s at).filler_bytes) (Ok (N.End q)) = rw e at (fillers_of s at).stops in k.1
 
-small : (s : List ℕ) (at : ℕ) {n : Next} → (scan_of s at).step ≡ Ok n → length s ≤ 4294967295
+pub small : (s : List ℕ) (at : ℕ) {n : Next} → (scan_of s at).step ≡ Ok n → length s ≤ 4294967295
 unfolding scan_of
 small s at e = grind (arith, common_steps)
 

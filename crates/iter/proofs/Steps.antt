@@ -16,6 +16,9 @@ module _ (s : List ℕ) (at : ℕ) {n : Next} {it : Record} (e : Ok n ≡ step_o
   record_of = sym e ∙ ap Ok f
 
   -- it lies within the stream
+  pub index_le_next : it.index ≤ it.next
+  index_le_next = omega (arith, step_fits s at it record_of)
+
   pub start_le_next : it.start ≤ it.next
   start_le_next = omega (arith, step_fits s at it record_of)
 

@@ -1,7 +1,8 @@
 -- Laws of where records land.
 -- Assumes nothing.
 use Rattle.std.proofs.Common.{ℕ, ◌+◌, ◌-◌, ◌≤◌, ◌<◌, ◌≡◌, refl, sym, ap, ◌∙◌, arith, List, [], ◌∷◌, length, cond, eqb-true, eq-eqb, ne_eqb, Bool, true, false, Option, None, Some, Result, Ok, Err}
-use Rattle.std.specs.Prelude.{eqb}
+use Rattle.std.specs.Prelude.{eqb, unwrap_or}
+use Rattle.check_nesting.specs.Check.{size}
 use Rattle.std.proofs.lemmas.Grind.{common_steps}
 use Rattle.common.specs.declared.Refusal.{Refusal}
 use Rattle.iter.specs.Step.{scan_of}
@@ -11,6 +12,7 @@ use Rattle.iter.specs.declared.Next.{Next}
 use Rattle.iter.specs.declared.Record.{Record}
 use Rattle.iter.specs.declared.Next.TheVariants as N
 use Rattle.iter.proofs.Reading.{step_fits, again, read_by}
+use Rattle.iter.proofs.Rows.{Wholes}
 use Rattle.iter.proofs.Records.{read-ind, Rising, rising, bytes-length}
 use Rattle.squeezing.specs.Squeeze.{lands_from}
 use Rattle.squeezing.specs.Landing.{Lands, landing_at, first_of}
@@ -21,6 +23,13 @@ lands_before : (rs : List Rec) (p to i : ℕ) → Rising p rs → i < p → land
 unfolding lands_from
 lands_before [] p to i ri l = refl
 lands_before (r ∷ rs) p to i ri l = grind (arith, common_steps, lands_before rs (r.index + 2 + length r.bytes) (to + (2 + length r.bytes)) i)
+
+-- no record lands behind where it was
+pub lands_within : (s : List ℕ) (rs : List Rec) (p at i : ℕ) → Rising p rs → Wholes s rs → at ≤ p → p ≤ length s → unwrap_or (lands_from at rs i) 0 ≤ length s
+unfolding lands_from
+lands_within s [] p at i ri w l h = omega arith
+lands_within s (r ∷ rs) p at i ri w l h =
+    grind (arith, common_steps, lands_within s rs (r.index + 2 + length r.bytes) (at + size r) i ri.1 w.1 (omega (arith, ri.0)) w.0.fits.within, w.0.fits)
 
 -- where a record lands: here, if it is the first of the list, or behind that
 lands_first : (s : List ℕ) (it : Record) (c : Scan) (rs : List Rec) (to i : ℕ) → length (bytes_at s it) ≡ it.len →

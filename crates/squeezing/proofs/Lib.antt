@@ -5,3 +5,4 @@ pub mod Moved
 pub mod Squeezed
 pub mod Kept
 pub mod Squeezes
+pub mod First

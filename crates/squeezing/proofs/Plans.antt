@@ -97,10 +97,6 @@ module _ {s : List ℕ} {first : ℕ} {here known : Landing} (g : Planning s fir
     pub readable_here : Readable (bytes_at s it)
     readable_here = (rw (read_by s here.at (Ok (N.Record it)) e) at g.readable).0
 
-    -- its next, read from its bytes as they are lent
-    pub next_here : {next : ℕ} → next ≡ next_by (record_links (take (it.next - it.start) (drop it.start s))) → next ≡ next_by (record_links (bytes_at s it))
-    next_here n = let long : it.next - it.start ≡ it.len = omega (arith, step_fits s here.at it e) in rw long at n
-
     pub behind_fits : here.to + 2 + it.len ≤ it.next
     behind_fits = omega (arith, g.here_lands, step_fits s here.at it e)
 

@@ -16,6 +16,7 @@ use Rattle.iter.proofs.Rows as R
 use Rattle.check_nesting.specs.Check.{size}
 use Rattle.squeezing.specs.Squeeze.{lands_from, lands, moved_link, moved, row, squeezed_from, squeezed}
 use Rattle.squeezing.specs.Squeezes.{NoFillers}
+use Rattle.squeezing.proofs.Landings.{lands_within}
 use Rattle.squeezing.proofs.Moved.{moved_length, moved_number}
 
 module _ (s : List ℕ) (to : ℕ → Option ℕ) where
@@ -50,13 +51,6 @@ module _ (s : List ℕ) (to : ℕ → Option ℕ) where
   row_within (r ∷ rs) p h ri w =
       simp length-append
       (omega (arith, moved_length to r.bytes, sound w.0, row_within rs (r.index + 2 + length r.bytes) w.0.fits.within ri.1 w.1))
-
--- no record lands behind where it was
-lands_within : (s : List ℕ) (rs : List Rec) (p at i : ℕ) → Rising p rs → Wholes s rs → at ≤ p → p ≤ length s → unwrap_or (lands_from at rs i) 0 ≤ length s
-unfolding lands_from
-lands_within s [] p at i ri w l h = omega arith
-lands_within s (r ∷ rs) p at i ri w l h =
-    grind (arith, common_steps, lands_within s rs (r.index + 2 + length r.bytes) (at + size r) i ri.1 w.1 (omega (arith, ri.0)) w.0.fits.within, w.0.fits)
 
 -- Records where they land, from a position on, at 0 exactly where they were there, with their links moved.
 pub data Landed (to : ℕ → Option ℕ) : ℕ → List Rec → List Rec → Type 0 where

@@ -1,9 +1,10 @@
 -- Squeezing leaves a stream that passes the check, with the same records but for moved links, and no filler behind the first.
 -- Assumes nothing.
-use Rattle.std.proofs.Common.{ℕ, ◌≡◌, refl, sym, ap, ◌∙◌, arith, List, [], ◌∷◌, ◌++◌, length, take, drop, take_at, Result, Ok, Err}
+use Rattle.std.proofs.Common.{ℕ, ◌+◌, ◌≡◌, refl, sym, ap, ◌∙◌, arith, List, [], ◌∷◌, ◌++◌, length, take, drop, take_at, Result, Ok, Err}
 use Rattle.std.specs.Prelude.{IfOk}
 use Rattle.std.specs.Result.{result_and}
 use Rattle.std.proofs.lemmas.Grind.{common_steps}
+use Rattle.common.specs.Bytes.{put}
 use Rattle.common.specs.declared.Refusal.{Refusal}
 use Rattle.iter.specs.Step.{scan_of}
 use Rattle.iter.specs.Reading.{Reading, read_of}
@@ -63,7 +64,7 @@ squeezed_squeezes s start ok nexts = by (scan_of s start).step refl
 -- what the buffer holds after the call, whose answer is the length written
 pub call_squeezes : (s : List ℕ) (start : ℕ) (buffer b : List ℕ) (r : Result ℕ Refusal) → r ≡ squeeze_of s start (length buffer) →
     b ≡ buffer_by (squeeze_of s start (length buffer)) (squeezed s start) buffer → IfOk r (λ n. Squeezes s start (take n b))
-unfolding squeeze_of
+unfolding squeeze_of put
 call_squeezes s start buffer b (Err x) e is = tt
 call_squeezes s start buffer b (Ok n) e is = by (check_of s start) refl e
   where
@@ -71,6 +72,6 @@ call_squeezes s start buffer b (Ok n) e is = by (check_of s start) refl e
         Ok n ≡ result_and c (result_and (nexts_of (lands (read_of s start).recs) (read_of s start).recs) (fitting (length (squeezed s start)) (length buffer))) → Squeezes s start (take n b)
     by (Ok c) ok l =
         let k : (nexts_of (lands (read_of s start).recs) (read_of s start).recs ≡ Ok tt) × (length (squeezed s start) ≡ n) = grind (arith, common_steps, l) in
-        let b_is : b ≡ squeezed s start ++ drop n buffer = is ∙ ap (λ x. buffer_by x (squeezed s start) buffer) (sym e) in
-        rw (b_is, take_at (squeezed s start) (drop n buffer) n k.1) (squeezed_squeezes s start ok k.0)
+        let b_is : b ≡ squeezed s start ++ drop (0 + length (squeezed s start)) buffer = is ∙ ap (λ x. buffer_by x (squeezed s start) buffer) (sym e) in
+        rw (b_is, take_at (squeezed s start) (drop (0 + length (squeezed s start)) buffer) n k.1) (squeezed_squeezes s start ok k.0)
     by (Err x) ok l = cc

@@ -1,6 +1,6 @@
 -- Laws of the writing loop: what is written is the squeezed stream, but for the ends of the openers that are not closed yet.
 -- Assumes nothing.
-use Rattle.std.proofs.Common.{ℕ, ◌+◌, ◌-◌, ◌≤◌, ◌<◌, ◌^◌, ◌≡◌, refl, sym, ap, ◌∙◌, subst, arith, List, [], ◌∷◌, ◌++◌, append_assoc, append-nil, map, reverse, length, length-append, length-take-le, length-drop, take, drop, Option, None, Some, Ok, Err, true, ne_eqb}
+use Rattle.std.proofs.Common.{ℕ, ◌+◌, ◌-◌, ◌≤◌, ◌<◌, ◌^◌, ◌≡◌, refl, sym, ap, ◌∙◌, subst, arith, List, [], ◌∷◌, ◌++◌, append_assoc, append-nil, map, reverse, length, length-append, length-take-le, length-drop, take, drop, Option, None, Some, Ok, Err, Bool, true, false, cond, ne_eqb}
 use Rattle.std.specs.Prelude.{IsSome}
 use mathlib.Core.List.{tail}
 use lib.Seq.{take-add, take-append_seam, take-append-add, drop-append-add, drop-drop}
@@ -10,17 +10,20 @@ use Rattle.std.specs.Int.{w32, to_le_bytes}
 use Rattle.common.specs.declared.Refusal.{Refusal}
 use Rattle.common.specs.Bytes.{put, put_u32}
 use Rattle.common.proofs.Bytes.{length_put}
-use Rattle.constants.specs.Raw.{nesting_role_of}
+use Rattle.constants.specs.Raw.{raw_kind, nesting_role_of}
+use Rattle.constants.specs.Kind.{nesting_role}
+use Rattle.constants.specs.declared.Role.{Role}
 use Rattle.constants.specs.declared.Role.TheVariants.{Neither, Opens, Closes}
 use Rattle.iter.specs.Step.{scan_of}
 use Rattle.iter.specs.Reading.{Rec, Reading, bytes_at, rec_at, read_of}
 use Rattle.iter.specs.declared.Record.{Record}
 use Rattle.iter.specs.declared.Next.TheVariants as N
 use Rattle.iter.proofs.Reading.{step_fits, read_by}
-use Rattle.iter.proofs.Records.{bytes-length}
-use Rattle.links.specs.Links.{links_of, with_parent_and_next, with_links}
+use Rattle.iter.proofs.Records.{kind_of, role_of_lem, rising, bytes-length}
+use Rattle.iter.proofs.Rows.{wholes}
+use Rattle.links.specs.Links.{has_next, links_of, with_parent_and_next, with_links}
 use Rattle.links.specs.declared.Links.{Links}
-use Rattle.links.proofs.Relinked.{links_within, with_links_length}
+use Rattle.links.proofs.Relinked.{links_within, next_within}
 use Rattle.check_nesting.specs.declared.act.Open.{Open}
 use Rattle.check_nesting.proofs.Checks.{popped}
 use Rattle.check_nesting.specs.Stack.{open_scope, inner_index}
@@ -30,7 +33,8 @@ use Rattle.squeezing.specs.Squeeze.{moved_link, moved_links, record_links, next_
 use Rattle.squeezing.specs.Landing.{landing_at, Lands}
 use Rattle.squeezing.specs.Plan.{Readable}
 use Rattle.squeezing.specs.Write.{squeezed_at, put_parent_and_next, innermost}
-use Rattle.squeezing.proofs.Landings.{lands_here, lands_behind, first_lands}
+use Rattle.squeezing.proofs.Moved.{record_links_is, moved_is, moved_length, moved_opener}
+use Rattle.squeezing.proofs.Landings.{lands_here, lands_behind, first_lands, lands_within}
 
 -- bytes put behind those that are written, within what is behind those, and within them
 put_end : (out xs old : List ℕ) {n : ℕ} → length out ≡ n → put n xs (out ++ drop n old) ≡ (out ++ xs) ++ drop (n + length xs) old
@@ -47,6 +51,36 @@ put_behind out xs bytes at {n} e =
 put_before : (out xs bytes : List ℕ) (at : ℕ) → at + length xs ≤ length out → put at xs (out ++ bytes) ≡ put at xs out ++ bytes
 unfolding put
 put_before out xs bytes at fits = grind (arith, common_steps)
+
+-- bytes put within the record behind those that are written, with its length field between
+put_in_record : (out head bytes xs : List ℕ) (at : ℕ) {n : ℕ} → length out ≡ n → length head ≡ 2 → put (n + 2 + at) xs (out ++ (head ++ bytes)) ≡ out ++ (head ++ put at xs bytes)
+put_in_record out head bytes xs at {n} e h =
+    let long : length (out ++ head) ≡ n + 2 = length-append out head ∙ omega arith in
+    ap (put (n + 2 + at) xs) (sym (append_assoc out head bytes)) ∙ put_behind (out ++ head) xs bytes at long ∙ append_assoc out head (put at xs bytes)
+
+module _ (parent next : ℕ) (bytes : List ℕ) (room : 10 ≤ length bytes) where
+  -- a parent, and a next where there is one, put in a record
+  links_length : (n : Bool) → (n ≡ true → 14 ≤ length bytes) → length (cond n (put_u32 10 next (put_u32 2 parent bytes)) (put_u32 2 parent bytes)) ≡ length bytes
+  links_length true more = let room_2 : 14 ≤ length bytes = more refl in grind (arith, length_put)
+  links_length false more = grind (arith, length_put)
+
+  links_put : (out head rest : List ℕ) {m : ℕ} → length out ≡ m → length head ≡ 2 → (n : Bool) → (n ≡ true → 14 ≤ length bytes) →
+      cond n (put_u32 (m + 2 + 10) next (put_u32 (m + 2 + 2) parent ((out ++ (head ++ bytes)) ++ rest))) (put_u32 (m + 2 + 2) parent ((out ++ (head ++ bytes)) ++ rest))
+      ≡ (out ++ (head ++ cond n (put_u32 10 next (put_u32 2 parent bytes)) (put_u32 2 parent bytes))) ++ rest
+  links_put out head rest {m} e h = by
+    where
+      one : (x at : ℕ) (bs : List ℕ) → at + 4 ≤ length bs → put_u32 (m + 2 + at) x ((out ++ (head ++ bs)) ++ rest) ≡ (out ++ (head ++ put_u32 at x bs)) ++ rest
+      one x at bs fits =
+          let long : length (out ++ (head ++ bs)) ≡ m + 2 + length bs = length-append out (head ++ bs) ∙ omega (arith, length-append head bs) in
+          put_before (out ++ (head ++ bs)) (to_le_bytes w32 x) rest (m + 2 + at) (omega arith) ∙ ap (λ l. l ++ rest) (put_in_record out head bs (to_le_bytes w32 x) at e h)
+
+      by : (n : Bool) → (n ≡ true → 14 ≤ length bytes) →
+          cond n (put_u32 (m + 2 + 10) next (put_u32 (m + 2 + 2) parent ((out ++ (head ++ bytes)) ++ rest))) (put_u32 (m + 2 + 2) parent ((out ++ (head ++ bytes)) ++ rest))
+          ≡ (out ++ (head ++ cond n (put_u32 10 next (put_u32 2 parent bytes)) (put_u32 2 parent bytes))) ++ rest
+      by true more =
+          let long = length_put 2 (to_le_bytes w32 parent) bytes (omega arith) in
+          ap (put_u32 (m + 2 + 10) next) (one parent 2 bytes (omega arith)) ∙ one next 10 (put_u32 2 parent bytes) (omega (arith, more refl))
+      by false more = one parent 2 bytes (omega arith)
 
 -- what is written, with the ends of these openers put in, which are not written yet
 unfoldable pub patched : (ℕ → Option ℕ) → List Open → List ℕ → List ℕ
@@ -93,6 +127,12 @@ pub record Writing (s : List ℕ) (first : ℕ) (old buffer openers : List ℕ) 
   pub written : buffer ≡ out ++ drop here.to old
   pub left : patched (landing_at s first) st out ++ row s (landing_at s first) (read_of s here.at).recs ≡ squeezed_at s first
   pub room : length (squeezed_at s first) ≤ length old
+  pub inside : first ≤ length s
+
+pub front_fits : (s : List ℕ) (first : ℕ) {n : ℕ} → first ≤ length s → length (squeezed_at s first) ≤ n → 0 + length (take first s) ≤ n
+unfolding squeezed_at
+front_fits s first within room =
+    omega (arith, length-append (take first s) (row s (landing_at s first) (read_of s first).recs))
 
 pub writing_first : (s : List ℕ) (first : ℕ) (old : List ℕ) → first ≤ length s → Nests (read_of s first).recs [] → length (squeezed_at s first) ≤ length old →
     Writing s first old (put 0 (take first s) old) [] (record { at = first; to = first }) (record { at = first; to = first })
@@ -111,6 +151,7 @@ writing_first s first old within nests room =
       written = ap (λ n. take first s ++ drop n old) (let n : 0 + length (take first s) ≡ first = omega arith in n);
       left = refl;
       room = room;
+      inside = within;
     }
 
 -- what the next record is where records nest
@@ -151,25 +192,6 @@ at_closer (closes {o = x} {st = st} n e d) o = record { inner = x; outer = st; i
 
 all_closed : {st : List Open} → Nests [] st → st ≡ []
 all_closed done = refl
-
--- a record with its links moved, by its role; it is as long as it was
-module _ (to : ℕ → Option ℕ) where
-  moved_neither : (bytes : List ℕ) → nesting_role_of bytes ≡ Neither → moved to bytes ≡ bytes
-  unfolding moved record_links
-  moved_neither bytes o = rw o refl
-
-  moved_closer : (bytes : List ℕ) → nesting_role_of bytes ≡ Closes → moved to bytes ≡ bytes
-  unfolding moved record_links
-  moved_closer bytes o = rw o refl
-
-  moved_opener : (bytes : List ℕ) {l : Links} → nesting_role_of bytes ≡ Opens → links_of bytes ≡ Some l → moved to bytes ≡ with_links (moved_links to l) bytes
-  unfolding moved record_links
-  moved_opener bytes o e = rw (o, e) refl
-
-  moved_length : {r : Rec} {rs : List Rec} {st : List Open} → Nests (r ∷ rs) st → length (moved to r.bytes) ≡ length r.bytes
-  moved_length (passes {r = r} n d) = ap length (moved_neither r.bytes n)
-  moved_length (opens {r = r} {l = l} n e z p m d) = ap length (moved_opener r.bytes n e) ∙ with_links_length r.bytes n e (moved_links to l)
-  moved_length (closes {r = r} n e d) = ap length (moved_closer r.bytes n)
 
 module _ {s : List ℕ} {first : ℕ} {old buffer openers : List ℕ} {here known : Landing} (g : Writing s first old buffer openers here known) where
   -- nothing is left
@@ -233,7 +255,7 @@ module _ {s : List ℕ} {first : ℕ} {old buffer openers : List ℕ} {here know
         ∙ (rw (read_by s here.at (Ok (N.Record it)) e) at g.left)
 
     moved_long : length (moved (landing_at s first) (bytes_at s it)) ≡ it.len
-    moved_long = moved_length (landing_at s first) nests_here ∙ bytes-length s here.at it e
+    moved_long = moved_length (landing_at s first) (bytes_at s it) ∙ bytes-length s here.at it e
 
     pub fits : here.to + 2 + it.len ≤ length old
     fits =
@@ -270,7 +292,29 @@ module _ {s : List ℕ} {first : ℕ} {old buffer openers : List ℕ} {here know
           written = w;
           left = left;
           room = g.room;
+          inside = g.inside;
         }
+
+    pub role_here : {ro : Role} → ro ≡ nesting_role it.kind → nesting_role_of (bytes_at s it) ≡ ro
+    role_here o = role_of_lem it.kind (bytes_at s it) (kind_of s here.at it e) (sym o)
+
+    -- the buffer keeps its length
+    pub buffer_length : length buffer ≡ length old
+    buffer_length = ap length g.written ∙ length-append g.out (drop here.to old) ∙ omega (arith, g.long, length-drop here.to old, fits)
+
+    pub frame_fits : here.to + length frame ≤ length buffer
+    frame_fits = omega (arith, frame_length, fits, buffer_length)
+
+    pub copied_length : length (put here.to frame buffer) ≡ length old
+    copied_length = length_put here.to frame buffer frame_fits ∙ buffer_length
+
+    -- every place is a position of the stream
+    pub place_fits : (x : ℕ) → moved_link (landing_at s first) x < 4294967296
+    place_fits x =
+        grind (arith, common_steps, lands_within s (read_of s first).recs first first x (rising s first) (wholes s first) (omega arith) g.inside, step_fits s here.at it e)
+
+    pub here_fits : here.to < 4294967296
+    here_fits = omega (arith, g.here_lands.low, step_fits s here.at it e)
 
     out_length : (bytes : List ℕ) → length bytes ≡ it.len → length (g.out ++ (head ++ bytes)) ≡ behind.to
     out_length bytes l = length-append g.out (head ++ bytes) ∙ omega (arith, length-append head bytes, head_length, g.long)
@@ -282,7 +326,7 @@ module _ {s : List ℕ} {first : ℕ} {old buffer openers : List ℕ} {here know
     pub neither : {bs : List ℕ} {k : Landing} → nesting_role_of (bytes_at s it) ≡ Neither → bs ≡ put here.to frame buffer → Lands s first k → Writing s first old bs openers behind k
     neither o w k =
         next_turn g.st (g.out ++ (head ++ bytes_at s it)) (at_neither nests_here o) k g.places below_behind (out_length (bytes_at s it) (bytes-length s here.at it e)) (w ∙ copied)
-        (rw (moved_neither (landing_at s first) (bytes_at s it) o) at left)
+        (rw (moved_is (landing_at s first) (bytes_at s it) o) at left)
 
     -- a closer: the end of its opener is written
     module _ (o : nesting_role_of (bytes_at s it) ≡ Closes) where
@@ -298,6 +342,9 @@ module _ {s : List ℕ} {first : ℕ} {old buffer openers : List ℕ} {here know
       pub inner_within : innermost (reverse openers) + 2 + 10 ≤ here.to
       inner_within = rw inner_place (rw closed.is at g.below).0
 
+      pub end_fits : innermost (reverse openers) + 2 + 6 + 4 ≤ length old
+      end_fits = omega (arith, inner_within, fits)
+
       -- the end of the opener is here
       end_place : moved_link (landing_at s first) closed.inner.end ≡ here.to
       end_place =
@@ -306,38 +353,50 @@ module _ {s : List ℕ} {first : ℕ} {old buffer openers : List ℕ} {here know
 
       pub closes_turn : {bs os : List ℕ} {k : Landing} → bs ≡ put_u32 (innermost (reverse openers) + 2 + 6) here.to (put here.to frame buffer) → os ≡ take (length openers - 1) openers → Lands s first k →
           Writing s first old bs os behind k
+      unfolding patched
       closes_turn w q k =
           let at : ℕ = innermost (reverse openers) + 2 + 6 in
           let four : List ℕ = to_le_bytes w32 here.to in
           let long = out_length (bytes_at s it) (bytes-length s here.at it e) in
-          let before = put_before g.out four (head ++ bytes_at s it) at (omega (arith, inner_within, g.long)) in
           next_turn closed.outer (put_u32 at here.to (g.out ++ (head ++ bytes_at s it))) closed.rest k
           (ap reverse q ∙ popped openers ∙ ap tail places_are)
           (rw closed.is at below_behind).1
           (length_put at four (g.out ++ (head ++ bytes_at s it)) (omega (arith, inner_within, long)) ∙ long)
           (w ∙ ap (put_u32 at here.to) copied ∙ put_before (g.out ++ (head ++ bytes_at s it)) four (drop behind.to old) at (omega (arith, inner_within, long)))
-          (ap (λ x. patched (landing_at s first) closed.outer x ++ row s (landing_at s first) (read_of s it.next).recs) ?
+          (ap (λ v. patched (landing_at s first) closed.outer (put_u32 (innermost (reverse openers) + 2 + 6) v (g.out ++ (head ++ bytes_at s it))) ++ row s (landing_at s first) (read_of s it.next).recs) (sym end_place)
+          ∙ ap (λ p. patched (landing_at s first) closed.outer (put_u32 (p + 2 + 6) (moved_link (landing_at s first) closed.inner.end) (g.out ++ (head ++ bytes_at s it))) ++ row s (landing_at s first) (read_of s it.next).recs) inner_place
           ∙ ap (λ st. patched (landing_at s first) st (g.out ++ (head ++ bytes_at s it)) ++ row s (landing_at s first) (read_of s it.next).recs) (sym closed.is)
-          ∙ (rw (moved_closer (landing_at s first) (bytes_at s it) o) at left))
+          ∙ (rw (moved_is (landing_at s first) (bytes_at s it) o) at left))
 
     -- an opener: its parent and its next are written, and it waits for its end
     module _ (o : nesting_role_of (bytes_at s it) ≡ Opens) where
       opened : Opened rec (read_of s it.next).recs g.st
       opened = at_opener nests_here o
 
-      pub within : here.to + 2 + 10 ≤ behind.to
+      within : here.to + 2 + 10 ≤ behind.to
       within = omega (arith, links_within (bytes_at s it) o opened.read, bytes-length s here.at it e)
+
+      pub links_fit : here.to + 2 + 10 ≤ length old
+      links_fit = omega (arith, within, fits)
+
+      pub next_fits : has_next it.kind ≡ true → here.to + 2 + 14 ≤ length old
+      next_fits n =
+          let k : has_next (raw_kind (bytes_at s it)) ≡ true = ap has_next (sym (kind_of s here.at it e)) ∙ n in
+          omega (arith, next_within (bytes_at s it) o opened.read k, bytes-length s here.at it e, fits)
 
       pub push_room : length openers < 64
       push_room =
           omega (arith, opened.few, ap length g.places, length-reverse openers, length-map g.st (λ o. moved_link (landing_at s first) o.index))
 
-      inner_place : innermost (reverse openers) ≡ moved_link (landing_at s first) opened.links.parent
-      inner_place = ap innermost g.places ∙ by g.st ∙ ap (moved_link (landing_at s first)) (sym opened.parent)
+      parent_place : innermost (reverse openers) ≡ moved_link (landing_at s first) opened.links.parent
+      parent_place = ap innermost g.places ∙ by g.st ∙ ap (moved_link (landing_at s first)) (sym opened.parent)
         where
           by : (st : List Open) → innermost (map (λ o. moved_link (landing_at s first) o.index) st) ≡ moved_link (landing_at s first) (inner_index st)
           by [] = refl
           by (o ∷ st) = refl
+
+      pub parent_fits : innermost (reverse openers) < 4294967296
+      parent_fits = rw parent_place (place_fits opened.links.parent)
 
       own_place : moved_link (landing_at s first) it.index ≡ here.to
       own_place = let above : ¬ (it.index ≡ 0) = λ z. omega (arith, opened.above) in rw (lands_here g.here_lands e, ne_eqb it.index 0 above) refl
@@ -346,20 +405,37 @@ module _ {s : List ℕ} {first : ℕ} {old buffer openers : List ℕ} {here know
       abbrev half : List ℕ
       half = with_parent_and_next (moved_links (landing_at s first) opened.links) (bytes_at s it)
 
+      abbrev parent : ℕ
+      parent = innermost (reverse openers)
+
       half_length : length half ≡ it.len
-      half_length = ?
+      half_length =
+          links_length _ _ (bytes_at s it) (links_within (bytes_at s it) o opened.read) (has_next (raw_kind (bytes_at s it))) (next_within (bytes_at s it) o opened.read)
+          ∙ bytes-length s here.at it e
 
       half_put : {next : ℕ} → next ≡ moved_link (landing_at s first) (next_by (record_links (bytes_at s it))) →
-          put_parent_and_next it.kind (here.to + 2) (innermost (reverse openers)) next (put here.to frame buffer) ≡ (g.out ++ (head ++ half)) ++ drop behind.to old
-      half_put n = ?
+          put_parent_and_next it.kind (here.to + 2) parent next (put here.to frame buffer) ≡ (g.out ++ (head ++ half)) ++ drop behind.to old
+      half_put {next} n =
+          let to : ℕ → Option ℕ = landing_at s first in
+          let links : record_links (bytes_at s it) ≡ Some opened.links = record_links_is (bytes_at s it) o ∙ opened.read in
+          let moved : next ≡ moved_link to opened.links.next = n ∙ ap (λ l. moved_link to (next_by l)) links in
+          (λ i. put_parent_and_next (kind_of s here.at it e i) (here.to + 2) (parent_place i) (moved i) (copied i))
+          ∙ links_put (moved_link to opened.links.parent) (moved_link to opened.links.next) (bytes_at s it) (links_within (bytes_at s it) o opened.read) g.out head (drop behind.to old) g.long head_length
+          (has_next (raw_kind (bytes_at s it))) (next_within (bytes_at s it) o opened.read)
 
       pub opens_turn : {bs os : List ℕ} {k : Landing} {next : ℕ} → next ≡ moved_link (landing_at s first) (next_by (record_links (bytes_at s it))) →
-          bs ≡ put_parent_and_next it.kind (here.to + 2) (innermost (reverse openers)) next (put here.to frame buffer) → os ≡ openers ++ here.to ∷ [] → Lands s first k →
+          bs ≡ put_parent_and_next it.kind (here.to + 2) parent next (put here.to frame buffer) → os ≡ openers ++ here.to ∷ [] → Lands s first k →
           Writing s first old bs os behind k
+      unfolding patched with_links
       opens_turn n w q k =
+          let to : ℕ → Option ℕ = landing_at s first in
+          let end : put_u32 (moved_link to it.index + 2 + 6) (moved_link to opened.links.end) (g.out ++ (head ++ half)) ≡ g.out ++ (head ++ moved to (bytes_at s it)) =
+              ap (λ p. put_u32 (p + 2 + 6) (moved_link to opened.links.end) (g.out ++ (head ++ half))) own_place
+              ∙ put_in_record g.out head half (to_le_bytes w32 (moved_link to opened.links.end)) 6 g.long head_length
+              ∙ ap (λ x. g.out ++ (head ++ x)) (sym (moved_opener to (bytes_at s it) o opened.read)) in
           next_turn (open_scope it.index opened.links ∷ g.st) (g.out ++ (head ++ half)) opened.rest k
-          (ap reverse q ∙ reverse-append openers (here.to ∷ []) ∙ (λ i. own_place (~ i) ∷ g.places i))
-          (?, below_behind)
+          (ap reverse q ∙ reverse-append openers (here.to ∷ []) ∙ (λ i. sym own_place i ∷ g.places i))
+          (omega (arith, own_place, within), below_behind)
           (out_length half half_length)
           (w ∙ half_put n)
-          ?
+          (ap (λ x. patched to g.st x ++ row s to (read_of s it.next).recs) end ∙ left)

@@ -3,13 +3,14 @@
 
 pub mod landing;
 
-ghost use Rattle.std.specs.Prelude.{◌≡◌, ◌≤◌, ◌<◌, ◌+◌, true, ◌||◌, eqb, is_some, List, [], reverse, length};
+ghost use Rattle.std.specs.Prelude.{◌≡◌, ◌≤◌, ◌<◌, ◌+◌, true, ◌||◌, eqb, is_some, List, [], reverse, length, take, IfOk};
 ghost use Rattle.common.specs.Bytes.{put, put_u32};
 ghost use Rattle.constants.specs.Raw.{raw_kind};
 ghost use Rattle.iter.specs.Reading.{read_of};
 ghost use Rattle.links.specs.Links.{has_next};
 ghost use Rattle.check_nesting.specs.Nesting.{Nests};
-ghost use Rattle.squeezing.specs.Squeeze.{moved_link, record_links, next_by};
+ghost use Rattle.squeezing.specs.Squeeze.{moved_link, record_links, next_by, squeezed, squeeze_of, buffer_by};
+ghost use Rattle.squeezing.specs.Squeezes.{Squeezes};
 ghost use Rattle.squeezing.specs.Landing.{Lands, landing_at};
 ghost use Rattle.squeezing.specs.Plan.{plan_of, Readable, AllReadable};
 ghost use Rattle.squeezing.specs.Write.{squeezed_at, put_parent_and_next, innermost};
@@ -21,7 +22,7 @@ use common::number::Number;
 use common::put::{put, put_u32};
 use constants::Role;
 use iter::{Next, Record};
-use landing::{Landing, landing_of};
+use landing::{Landing, first_index, landing_of};
 use links::{END_AT, NEXT_AT, PARENT_AT};
 
 /// The next of a record, whose bytes are lent with it, 0 where it has none.
@@ -77,7 +78,7 @@ fn plan(s: &[u8], first: usize) -> Result<usize, Refusal>
 }
 
 /// A link, moved to where the record that it names lands; 0 stays.
-fn moved(s: &[u8], first: usize, known: &mut Landing, link: usize) -> usize
+fn moved_link(s: &[u8], first: usize, known: &mut Landing, link: usize) -> usize
     requires { Lands s.now first known.old }
     ensures moved { result ≡ moved_link (landing_at s.now first) link }
     ensures known { Lands s.now first known.new }
@@ -118,7 +119,7 @@ fn innermost(openers: &[usize]) -> usize
 }
 
 /// Writes the squeezed stream. An end is written when its closer is met: until then it stands as it was.
-#[tactic(auto, using(iter::proofs::Steps::start_le_next, iter::proofs::Steps::next_within, iter::proofs::Steps::less_left, iter::proofs::Steps::lent_kind))]
+#[tactic(auto, using(iter::proofs::Steps::index_le_next, iter::proofs::Steps::start_le_next, iter::proofs::Steps::next_within, iter::proofs::Steps::less_left, iter::proofs::Steps::lent_kind))]
 fn write(s: &[u8], first: usize, buffer: &mut [u8])
     requires within { first ≤ length s.now }
     requires nests { Nests (read_of s.now first).recs [] }
@@ -136,7 +137,7 @@ fn write(s: &[u8], first: usize, buffer: &mut [u8])
             Ok(Next::End(_)) => return,
             Ok(Next::Record(r)) => {
                 let next = next_of(r, &s[r.start..r.next]);
-                let next = moved(s, first, &mut known, next);
+                let next = moved_link(s, first, &mut known, next);
                 let to = here.to;
                 here = here.behind(r);
                 put(buffer, to, &s[r.index..r.next]);
@@ -154,4 +155,21 @@ fn write(s: &[u8], first: usize, buffer: &mut [u8])
             }
         }
     }
+}
+
+/// Squeezes a stream from a start on into a lent buffer, and answers the length written. A buffer as long as the stream is long enough.
+#[tactic(auto, using(crate::proofs::First::first_within, crate::proofs::Squeezes::call_squeezes))]
+pub fn squeeze(s: &[u8], start: usize, buffer: &mut [u8]) -> Result<usize, Refusal>
+    ensures value { result ≡ squeeze_of s.now start (length buffer.old) }
+    ensures buffer { buffer.new ≡ buffer_by (squeeze_of s.now start (length buffer.old)) (squeezed s.now start) buffer.old }
+    ensures squeezes { IfOk result (λ n. Squeezes s.now start (take n buffer.new)) }
+{
+    check_nesting::check(s, start)?;
+    let first = first_index(s, start);
+    let n = plan(s, first)?;
+    if buffer.len() < n {
+        return Err(Refusal::NoRoom);
+    }
+    write(s, first, buffer);
+    Ok(n)
 }

@@ -2,9 +2,10 @@
 use Rattle.std.proofs.Common.{rules, refl, sym, subst, ap, ◌∙◌, arith, Ok}
 use Rattle.iter.proofs.Reading.{step_is}
 use Rattle.iter.proofs.Steps.{record_of, lent_bytes}
+use Rattle.squeezing.specs.Squeeze.{record_links, next_by}
 use Rattle.squeezing.specs.Plan.{Readable}
 use Rattle.squeezing.proofs.Landings.{first_lands}
-use Rattle.squeezing.proofs.Plans.{planning_first, at_end, at_refused, readable_here, next_here, behind_fits, at_wrong, goes_on}
+use Rattle.squeezing.proofs.Plans.{planning_first, at_end, at_refused, readable_here, behind_fits, at_wrong, goes_on}
 use Rattle.squeezing.proofs.plan.Goals as goal
 
 pub loop-r-init : goal.loop-r-init
@@ -23,7 +24,7 @@ next_of-next-requires-clause-readable c =
 pub returns-then-not-is_named : goal.returns-then-not-is_named
 returns-then-not-is_named c =
     let it = record_of _ _ c.in-Ok-Record.ensures c.in-Ok-Record.field-0-is in
-    at_wrong c.loop-r.invariant it (next_here c.loop-r.invariant it c.next_of-next.ensures) (sym c.if-not-is_named.ensures.named)
+    at_wrong c.loop-r.invariant it (c.next_of-next.ensures ∙ ap (λ b. next_by (record_links b)) (lent_bytes _ _ c.in-Ok-Record.ensures c.in-Ok-Record.field-0-is)) (sym c.if-not-is_named.ensures.named)
 
 pub behind-here-requires : goal.behind-here-requires
 behind-here-requires c = behind_fits c.loop-r.invariant (record_of _ _ c.in-Ok-Record.ensures c.in-Ok-Record.field-0-is)
@@ -31,4 +32,4 @@ behind-here-requires c = behind_fits c.loop-r.invariant (record_of _ _ c.in-Ok-R
 pub loop-r-preserved : goal.loop-r-preserved
 loop-r-preserved c =
     let it = record_of _ _ c.in-Ok-Record.ensures c.in-Ok-Record.field-0-is in
-    rw c.behind-here.ensures (goes_on c.loop-r.invariant it (next_here c.loop-r.invariant it c.next_of-next.ensures) (sym c.if-not-is_named.ensures.named) c.is_named.ensures.known)
+    rw c.behind-here.ensures (goes_on c.loop-r.invariant it (c.next_of-next.ensures ∙ ap (λ b. next_by (record_links b)) (lent_bytes _ _ c.in-Ok-Record.ensures c.in-Ok-Record.field-0-is)) (sym c.if-not-is_named.ensures.named) c.is_named.ensures.known)
