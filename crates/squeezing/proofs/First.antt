@@ -1,25 +1,26 @@
 -- Reading from the first record on gives what reading from the start gives, but for the fillers before it: the loops do what the squeeze is.
 -- Assumes nothing.
-use Rattle.std.proofs.Common.{ℕ, ◌+◌, ◌≤◌, ◌≡◌, refl, sym, ap, ◌∙◌, subst, arith, List, [], ◌∷◌, ◌++◌, append-nil, length, length-append, length-drop, length-take-le, take, drop, Option, Result, Ok, Err}
-use Rattle.std.specs.Prelude.{sum_by}
+use Rattle.std.proofs.Common.{ℕ, ◌+◌, ◌≤◌, ◌<◌, ◌≡◌, refl, sym, ap, ◌∙◌, subst, arith, List, [], ◌∷◌, ◌++◌, append-nil, length, length-append, length-drop, length-take-le, take, drop, Option, Result, Ok, Err}
+use Rattle.std.specs.Prelude.{sum_by, IsSome}
 use Rattle.std.specs.Result.{result_and}
 use Rattle.std.proofs.lemmas.Grind.{common_steps}
 use Rattle.std.proofs.lemmas.List.{take_all, drop_all}
 use Rattle.common.specs.declared.Refusal.{Refusal}
+use Rattle.common.specs.declared.Refusal.TheVariants.{NoRoom}
 use Rattle.iter.specs.Step.{scan_of}
-use Rattle.iter.specs.Reading.{Rec, Reading, ends, rec_at, read_of}
+use Rattle.iter.specs.Reading.{Rec, Reading, ends, refuses, rec_at, read_of}
 use Rattle.iter.specs.declared.Scan.{Scan}
 use Rattle.iter.specs.declared.Next.{Next}
-use Rattle.iter.specs.declared.Record.{Record}
 use Rattle.iter.specs.declared.Next.TheVariants as N
 use Rattle.iter.proofs.Reading.{small, step_fits, again, read_by}
 use Rattle.iter.proofs.Rows.{Wholes, wholes, read_left}
+use Rattle.check_nesting.specs.declared.act.Open.{Open}
 use Rattle.check_nesting.specs.declared.Counts.{Counts}
 use Rattle.check_nesting.specs.Check.{size, check_of}
 use Rattle.check_nesting.specs.Nesting.{Nests, done, passes, opens, closes, NestsIn}
 use Rattle.check_nesting.proofs.Nesting.{good_nests}
-use Rattle.squeezing.specs.Squeeze.{lands_from, lands, moved, row, nexts_of, fitting, squeezed_from, squeezed, squeeze_of}
-use Rattle.squeezing.specs.Landing.{first_of, landing_at}
+use Rattle.squeezing.specs.Squeeze.{lands_from, lands, row, nexts_of, fitting, squeezed_from, squeezed, squeeze_of}
+use Rattle.squeezing.specs.Landing.{first_in, first_of, landing_at}
 use Rattle.squeezing.specs.Plan.{plan_of, AllReadable}
 use Rattle.squeezing.specs.Write.{squeezed_at}
 use Rattle.squeezing.proofs.Moved.{moved_length}
@@ -43,7 +44,137 @@ first_read s start ending = by (scan_of s start).step refl
     by : (n : Result Next Refusal) → (scan_of s start).step ≡ n → First s start (first_of s start)
     by (Ok (N.Record it)) e =
         let here = ap recs_of (read_by s start (Ok (N.Record it)) e) in
-        let own = ap recs_of (read_by s it.index (Ok (N.Record it)) (ap (λ (c : Scan). c.step) (again s start it e))) in
-        ?
-    by (Ok (N.End p)) e = ?
-    by (Err x) e = cc
+        let again_is = again s start it e in
+        let own : (read_of s it.index).recs ≡ bare (rec_at s (scan_of s start) it) ∷ (read_of s it.next).recs =
+        ap recs_of (read_by s it.index (Ok (N.Record it)) (ap (λ (c : Scan). c.step) again_is)) ∙ ap (λ c. rec_at s c it ∷ (read_of s it.next).recs) again_is in
+        let first_is : first_of s start ≡ it.index = ap (first_in s) here in
+        a_record (rec_at s (scan_of s start) it) (read_of s it.next).recs here (ap (λ n. (read_of s n).recs) first_is ∙ own) first_is
+        (omega (arith, step_fits s start it e))
+    by (Ok (N.End p)) e =
+        let here = ap recs_of (read_by s start (Ok (N.End p)) e) in
+        let first_is : first_of s start ≡ length s = ap (first_in s) here in
+        let none = ap recs_of (read_left s [] (length s) tt (drop_all (length s) s (omega arith)) (small s start e)) in
+        no_record here (ap (λ n. (read_of s n).recs) first_is ∙ none) first_is
+    by (Err x) e = let k : refuses x ≡ ends = ap (λ (r : Reading). r.last.ending) (sym (read_by s start (Err x) e)) ∙ ending in cc
+
+-- the records with their length fields are as long as they say
+row_length : (s : List ℕ) (to : ℕ → Option ℕ) (rs : List Rec) → Wholes s rs → length (row s to rs) ≡ sum_by size rs
+unfolding row
+row_length s to [] w = refl
+row_length s to (r ∷ rs) w =
+    let head = length-take-le 2 (drop r.index s) (simp length-drop (omega (arith, w.0.fits))) in
+    grind (arith, common_steps, moved_length to r.bytes, head, row_length s to rs w.1)
+
+nests_bare : {r : Rec} {rs : List Rec} {st : List Open} → Nests (r ∷ rs) st → Nests (bare r ∷ rs) st
+nests_bare (passes {r = r} n d) = passes {r = bare r} n d
+nests_bare (opens {r = r} n e z p m d) = opens {r = bare r} n e z p m d
+nests_bare (closes {r = r} n e d) = closes {r = bare r} n e d
+
+all_readable : {rs : List Rec} {st : List Open} → Nests rs st → AllReadable rs
+all_readable done = tt
+all_readable (passes n d) = ((λ o. cc), all_readable d)
+all_readable (opens n e z p m d) = ((λ o. subst IsSome (sym e) refl), all_readable d)
+all_readable (closes n e d) = ((λ o. cc), all_readable d)
+
+-- what the squeeze is, by what the plan says
+abbrev on_plan : Result ℕ Refusal → ℕ → Result ℕ Refusal
+on_plan (Ok n) room = fitting n room
+on_plan (Err e) room = Err e
+
+planned : (nexts : Result Unit Refusal) (n room : ℕ) → result_and nexts (fitting n room) ≡ on_plan (result_and nexts (Ok n)) room
+planned (Ok u) n room = refl
+planned (Err e) n room = refl
+
+pub squeeze_refused : (s : List ℕ) (start room : ℕ) {e : Refusal} → check_of s start ≡ Err e → squeeze_of s start room ≡ Err e
+unfolding squeeze_of
+squeeze_refused s start room ok = rw ok refl
+
+module _ (s : List ℕ) (start : ℕ) {c : Counts} (ok : check_of s start ≡ Ok c) where
+  nesting : NestsIn (read_of s start).last.ending (read_of s start).recs []
+  nesting = good_nests s start ok
+
+  first : First s start (first_of s start)
+  first = first_read s start nesting.at_end
+
+  first_within : first_of s start ≤ length s
+  first_within = by first
+    where
+      by : First s start (first_of s start) → first_of s start ≤ length s
+      by (no_record e f is) = omega arith
+      by (a_record r rs e f is within) = within
+
+  first_nests : Nests (read_of s (first_of s start)).recs []
+  first_nests = by first
+    where
+      by : First s start (first_of s start) → Nests (read_of s (first_of s start)).recs []
+      by (no_record e f is) = rw f done
+      by (a_record r rs e f is within) = rw f (nests_bare (subst (λ l. Nests l []) e nesting.nests))
+
+  squeezed_is : squeezed_at s (first_of s start) ≡ squeezed s start
+  unfolding squeezed_at squeezed squeezed_from lands row lands_from
+  squeezed_is = by first
+    where
+      by : First s start (first_of s start) → squeezed_at s (first_of s start) ≡ squeezed s start
+      by (no_record e f is) =
+          (λ j. take (is j) s ++ row s (λ i. lands_from (is j) (f j) i) (f j)) ∙ append-nil (take (length s) s) ∙ take_all (length s) s (omega arith) ∙ sym (ap (squeezed_from s) e)
+      by (a_record r rs e f is within) = (λ j. take (is j) s ++ row s (λ i. lands_from (is j) (f j) i) (f j)) ∙ sym (ap (squeezed_from s) e)
+
+  nexts_are : nexts_of (landing_at s (first_of s start)) (read_of s (first_of s start)).recs ≡ nexts_of (lands (read_of s start).recs) (read_of s start).recs
+  unfolding nexts_of lands lands_from
+  nexts_are = by first
+    where
+      by : First s start (first_of s start) → nexts_of (landing_at s (first_of s start)) (read_of s (first_of s start)).recs ≡ nexts_of (lands (read_of s start).recs) (read_of s start).recs
+      by (no_record e f is) = (λ j. nexts_of (λ i. lands_from (is j) (f j) i) (f j)) ∙ sym (ap (λ l. nexts_of (lands l) l) e)
+      by (a_record r rs e f is within) = (λ j. nexts_of (λ i. lands_from (is j) (f j) i) (f j)) ∙ sym (ap (λ l. nexts_of (lands l) l) e)
+
+  length_is : first_of s start + sum_by size (read_of s (first_of s start)).recs ≡ length (squeezed_at s (first_of s start))
+  unfolding squeezed_at
+  length_is =
+      let to = landing_at s (first_of s start) in
+      let rs = (read_of s (first_of s start)).recs in
+      omega (arith, length-append (take (first_of s start) s) (row s to rs), length-take-le (first_of s start) s first_within, row_length s to rs (wholes s (first_of s start)))
+
+  plan_is : plan_of s (first_of s start) ≡ result_and (nexts_of (lands (read_of s start).recs) (read_of s start).recs) (Ok (length (squeezed s start)))
+  unfolding plan_of
+  plan_is = let long = length_is ∙ ap length squeezed_is in λ i. result_and (nexts_are i) (Ok (long i))
+
+  squeeze_is : (room : ℕ) → squeeze_of s start room ≡ on_plan (plan_of s (first_of s start)) room
+  unfolding squeeze_of
+  squeeze_is room =
+      ap (λ r. result_and r (result_and (nexts_of (lands (read_of s start).recs) (read_of s start).recs) (fitting (length (squeezed s start)) room))) ok
+      ∙ planned (nexts_of (lands (read_of s start).recs) (read_of s start).recs) (length (squeezed s start)) room
+      ∙ ap (λ p. on_plan p room) (sym plan_is)
+
+  -- the same, as the calls say it, of the first record that was found
+  module _ {at : ℕ} (f : at ≡ first_of s start) where
+    pub within : at ≤ length s
+    within = rw f first_within
+
+    pub nests : Nests (read_of s at).recs []
+    nests = rw f first_nests
+
+    pub readable : AllReadable (read_of s at).recs
+    readable = all_readable nests
+
+    pub written : squeezed_at s at ≡ squeezed s start
+    written = ap (squeezed_at s) f ∙ squeezed_is
+
+    pub plan_refused : (room : ℕ) {e : Refusal} → Err e ≡ plan_of s at → Err e ≡ squeeze_of s start room
+    plan_refused room p = ap (λ r. on_plan r room) (p ∙ ap (plan_of s) f) ∙ sym (squeeze_is room)
+
+    module _ {n : ℕ} (p : Ok n ≡ plan_of s at) where
+      plan_fits : (room : ℕ) → fitting n room ≡ squeeze_of s start room
+      plan_fits room = ap (λ r. on_plan r room) (p ∙ ap (plan_of s) f) ∙ sym (squeeze_is room)
+
+      pub too_long : {room : ℕ} → room < n → Err NoRoom ≡ squeeze_of s start room
+      too_long {room} l = grind (arith, common_steps, plan_fits room)
+
+      pub fits : {room : ℕ} → n ≤ room → Ok n ≡ squeeze_of s start room
+      fits {room} l = grind (arith, common_steps, plan_fits room)
+
+      pub plan_length : n ≡ length (squeezed_at s at)
+      plan_length = by (nexts_of (lands (read_of s start).recs) (read_of s start).recs) (p ∙ ap (plan_of s) f ∙ plan_is) ∙ sym (ap length written)
+        where
+          by : (nexts : Result Unit Refusal) → Ok n ≡ result_and nexts (Ok (length (squeezed s start))) → n ≡ length (squeezed s start)
+          by (Ok u) q = cc
+          by (Err e) q = cc

@@ -1,6 +1,6 @@
 -- Laws of where records land.
 -- Assumes nothing.
-use Rattle.std.proofs.Common.{ℕ, ◌+◌, ◌-◌, ◌≤◌, ◌<◌, ◌≡◌, refl, sym, ap, ◌∙◌, arith, List, [], ◌∷◌, length, cond, eqb-true, eq-eqb, ne_eqb, Bool, true, false, Option, None, Some, Result, Ok, Err}
+use Rattle.std.proofs.Common.{ℕ, ◌+◌, ◌≤◌, ◌<◌, ◌≡◌, refl, sym, ap, ◌∙◌, arith, List, [], ◌∷◌, length, cond, eqb-true, eq-eqb, ne_eqb, Bool, true, false, None, Some, Result, Ok, Err}
 use Rattle.std.specs.Prelude.{eqb, unwrap_or}
 use Rattle.check_nesting.specs.Check.{size}
 use Rattle.std.proofs.lemmas.Grind.{common_steps}

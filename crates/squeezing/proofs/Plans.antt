@@ -1,6 +1,6 @@
 -- Laws of the planning loop.
 -- Assumes nothing.
-use Rattle.std.proofs.Common.{ℕ, ◌+◌, ◌-◌, ◌≤◌, ◌≡◌, refl, sym, ap, subst, ◌∙◌, arith, List, [], ◌∷◌, length, take, drop, true, false, Option, None, Some, eqb, is_some, cond, ◌||◌, ◌&&◌, Result, Ok, Err}
+use Rattle.std.proofs.Common.{ℕ, ◌+◌, ◌≤◌, ◌≡◌, refl, sym, ap, ◌∙◌, arith, List, ◌∷◌, length, true, false, Option, None, Some, eqb, is_some, ◌||◌, Result, Ok, Err}
 use Rattle.std.specs.Prelude.{sum_by, IsSome}
 use Rattle.std.specs.Result.{result_and}
 use Rattle.std.proofs.lemmas.Grind.{common_steps}
@@ -11,7 +11,7 @@ use Rattle.constants.specs.Kind.{nesting_role, opens}
 use Rattle.constants.specs.declared.Role.{Role}
 use Rattle.constants.specs.declared.Role.TheVariants.{Opens, Closes, Neither}
 use Rattle.iter.specs.Step.{scan_of}
-use Rattle.iter.specs.Reading.{Reading, bytes_at, rec_at, read_of}
+use Rattle.iter.specs.Reading.{bytes_at, rec_at, read_of}
 use Rattle.iter.specs.declared.Record.{Record}
 use Rattle.iter.specs.declared.Next.TheVariants as N
 use Rattle.iter.proofs.Reading.{step_fits, read_by}
@@ -111,7 +111,7 @@ module _ {s : List ℕ} {first : ℕ} {here known : Landing} (g : Planning s fir
       goes_on b l =
           let y = read_by s here.at (Ok (N.Record it)) e in
           let sizes : here.to + 2 + it.len + sum_by size (read_of s it.next).recs ≡ here.to + sum_by size (rec_at s (scan_of s here.at) it ∷ (read_of s it.next).recs) =
-              grind (arith, common_steps, bytes-length s here.at it e) in
+          grind (arith, common_steps, bytes-length s here.at it e) in
           record {
             here_lands = behind_fits;
             known_lands = l;

@@ -1,7 +1,6 @@
 -- Steps over the squeezed stream yield the records one behind the other, their links moved, and nothing is passed over behind the first.
 -- Assumes nothing.
 use Rattle.std.proofs.Common.{ℕ, ◌+◌, ◌≤◌, ◌<◌, ◌^◌, ◌≡◌, refl, sym, ap, ◌∙◌, subst, arith, List, [], ◌∷◌, ◌++◌, length, take, drop, map, length-append, length-take-le, length-drop, append_assoc, add-zero, take-take, eqb, Option, Ok}
-use Rattle.std.specs.Prelude.{unwrap_or}
 use Rattle.std.proofs.lemmas.Grind.{common_steps}
 use Rattle.std.proofs.lemmas.List.{take-append-le}
 use Rattle.constants.specs.Kind.{is_filler}
@@ -14,7 +13,7 @@ use Rattle.iter.proofs.Records.{le_part, bytes-length, Rising, rising}
 use Rattle.iter.proofs.Rows.{Whole, Wholes, wholes, Piece, Sound, Sounds, laid, to_end, read_kept}
 use Rattle.iter.proofs.Rows as R
 use Rattle.check_nesting.specs.Check.{size}
-use Rattle.squeezing.specs.Squeeze.{lands_from, lands, moved_link, moved, row, squeezed_from, squeezed}
+use Rattle.squeezing.specs.Squeeze.{lands, moved_link, moved, row, squeezed_from, squeezed}
 use Rattle.squeezing.specs.Squeezes.{NoFillers}
 use Rattle.squeezing.proofs.Landings.{lands_within}
 use Rattle.squeezing.proofs.Moved.{moved_length, moved_number}

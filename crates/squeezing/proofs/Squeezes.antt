@@ -9,7 +9,6 @@ use Rattle.common.specs.declared.Refusal.{Refusal}
 use Rattle.iter.specs.Step.{scan_of}
 use Rattle.iter.specs.Reading.{Reading, read_of}
 use Rattle.iter.specs.declared.Next.{Next}
-use Rattle.iter.specs.declared.Record.{Record}
 use Rattle.iter.specs.declared.Next.TheVariants as N
 use Rattle.iter.proofs.Reading.{read_by}
 use Rattle.iter.proofs.Records.{Rising, rising}

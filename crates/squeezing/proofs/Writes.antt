@@ -1,6 +1,6 @@
 -- Laws of the writing loop: what is written is the squeezed stream, but for the ends of the openers that are not closed yet.
 -- Assumes nothing.
-use Rattle.std.proofs.Common.{ℕ, ◌+◌, ◌-◌, ◌≤◌, ◌<◌, ◌^◌, ◌≡◌, refl, sym, ap, ◌∙◌, subst, arith, List, [], ◌∷◌, ◌++◌, append_assoc, append-nil, map, reverse, length, length-append, length-take-le, length-drop, take, drop, Option, None, Some, Ok, Err, Bool, true, false, cond, ne_eqb}
+use Rattle.std.proofs.Common.{ℕ, ◌+◌, ◌-◌, ◌≤◌, ◌<◌, ◌≡◌, refl, sym, ap, ◌∙◌, subst, arith, List, [], ◌∷◌, ◌++◌, append_assoc, append-nil, map, reverse, length, length-append, length-take-le, length-drop, take, drop, Option, Some, Ok, Err, Bool, true, false, cond, ne_eqb}
 use Rattle.std.specs.Prelude.{IsSome}
 use mathlib.Core.List.{tail}
 use lib.Seq.{take-add, take-append_seam, take-append-add, drop-append-add, drop-drop}
@@ -262,7 +262,7 @@ module _ {s : List ℕ} {first : ℕ} {old buffer openers : List ℕ} {here know
         let to : ℕ → Option ℕ = landing_at s first in
         let out : List ℕ = g.out ++ (head ++ moved to (bytes_at s it)) in
         let long : length out ≡ here.to + 2 + it.len =
-            length-append g.out (head ++ moved to (bytes_at s it)) ∙ omega (arith, length-append head (moved to (bytes_at s it)), head_length, moved_long, g.long) in
+        length-append g.out (head ++ moved to (bytes_at s it)) ∙ omega (arith, length-append head (moved to (bytes_at s it)), head_length, moved_long, g.long) in
         let whole = length-append (patched to g.st out) (row s to (read_of s it.next).recs) in
         omega (arith, ap length left, patched_length to g.st out (below_more to g.st (omega arith) g.below), g.room)
 
@@ -430,9 +430,9 @@ module _ {s : List ℕ} {first : ℕ} {old buffer openers : List ℕ} {here know
       opens_turn n w q k =
           let to : ℕ → Option ℕ = landing_at s first in
           let end : put_u32 (moved_link to it.index + 2 + 6) (moved_link to opened.links.end) (g.out ++ (head ++ half)) ≡ g.out ++ (head ++ moved to (bytes_at s it)) =
-              ap (λ p. put_u32 (p + 2 + 6) (moved_link to opened.links.end) (g.out ++ (head ++ half))) own_place
-              ∙ put_in_record g.out head half (to_le_bytes w32 (moved_link to opened.links.end)) 6 g.long head_length
-              ∙ ap (λ x. g.out ++ (head ++ x)) (sym (moved_opener to (bytes_at s it) o opened.read)) in
+          ap (λ p. put_u32 (p + 2 + 6) (moved_link to opened.links.end) (g.out ++ (head ++ half))) own_place
+          ∙ put_in_record g.out head half (to_le_bytes w32 (moved_link to opened.links.end)) 6 g.long head_length
+          ∙ ap (λ x. g.out ++ (head ++ x)) (sym (moved_opener to (bytes_at s it) o opened.read)) in
           next_turn (open_scope it.index opened.links ∷ g.st) (g.out ++ (head ++ half)) opened.rest k
           (ap reverse q ∙ reverse-append openers (here.to ∷ []) ∙ (λ i. sym own_place i ∷ g.places i))
           (omega (arith, own_place, within), below_behind)

@@ -158,7 +158,7 @@ fn write(s: &[u8], first: usize, buffer: &mut [u8])
 }
 
 /// Squeezes a stream from a start on into a lent buffer, and answers the length written. A buffer as long as the stream is long enough.
-#[tactic(auto, using(crate::proofs::First::first_within, crate::proofs::Squeezes::call_squeezes))]
+#[tactic(auto, using(crate::proofs::First::within))]
 pub fn squeeze(s: &[u8], start: usize, buffer: &mut [u8]) -> Result<usize, Refusal>
     ensures value { result ≡ squeeze_of s.now start (length buffer.old) }
     ensures buffer { buffer.new ≡ buffer_by (squeeze_of s.now start (length buffer.old)) (squeezed s.now start) buffer.old }

@@ -1,5 +1,5 @@
 -- `squeezing::next_of` meets its contract.
-use Rattle.std.proofs.Common.{rules, refl, sym, ◌∙◌}
+use Rattle.std.proofs.Common.{refl, sym, ◌∙◌}
 use Rattle.squeezing.proofs.Plans.{next_there, next_stands, no_next, next_of_other}
 use Rattle.squeezing.proofs.next_of.Goals as goal
 

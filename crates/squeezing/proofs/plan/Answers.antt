@@ -1,10 +1,9 @@
 -- `squeezing::plan` meets its contract.
-use Rattle.std.proofs.Common.{rules, refl, sym, subst, ap, ◌∙◌, arith, Ok}
+use Rattle.std.proofs.Common.{sym, subst, ap, ◌∙◌, Ok}
 use Rattle.iter.proofs.Reading.{step_is}
 use Rattle.iter.proofs.Steps.{record_of, lent_bytes}
 use Rattle.squeezing.specs.Squeeze.{record_links, next_by}
 use Rattle.squeezing.specs.Plan.{Readable}
-use Rattle.squeezing.proofs.Landings.{first_lands}
 use Rattle.squeezing.proofs.Plans.{planning_first, at_end, at_refused, readable_here, behind_fits, at_wrong, goes_on}
 use Rattle.squeezing.proofs.plan.Goals as goal
 

@@ -69,8 +69,8 @@ loop-r-preserved-in-Opens c =
     let it = record_of _ _ c.in-Ok-Record.ensures c.in-Ok-Record.field-0-is in
     let g = c.loop-r.invariant in
     let next : c.moved_link-next.result ≡ moved_link (landing_at c.args.s.now c.args.first) (next_by (record_links _)) =
-        c.moved_link-next.ensures.moved
-        ∙ ap (moved_link (landing_at c.args.s.now c.args.first)) (c.next_of-next.ensures ∙ ap (λ b. next_by (record_links b)) (lent_bytes _ _ c.in-Ok-Record.ensures c.in-Ok-Record.field-0-is)) in
+    c.moved_link-next.ensures.moved
+    ∙ ap (moved_link (landing_at c.args.s.now c.args.first)) (c.next_of-next.ensures ∙ ap (λ b. next_by (record_links b)) (lent_bytes _ _ c.in-Ok-Record.ensures c.in-Ok-Record.field-0-is)) in
     let inner = c.innermost.ensures ∙ ap (λ l. innermost (reverse l)) c.deref.ensures.0 in
     let written = c.put_parent_and_next.ensures ∙ (λ i. put_parent_and_next c.in-Ok-Record.r.kind (c.loop-r.here.to + 2) (inner i) c.moved_link-next.result (c.put-in-Ok-Record.ensures i)) in
     rw c.behind-here.ensures (opens_turn g it (role_here g it c.in-Opens.ensures) next written c.push.ensures.items c.moved_link-next.ensures.known)

@@ -1,5 +1,5 @@
 -- `squeezing::landing::landing_from` meets its contract.
-use Rattle.std.proofs.Common.{rules, ap, ◌∙◌, refl, arith, Ok}
+use Rattle.std.proofs.Common.{ap, ◌∙◌, refl, arith, Ok}
 use Rattle.iter.proofs.Reading.{step_is, step_fits}
 use Rattle.squeezing.proofs.Landings.{at_end, at_refused, behind_fits, at_found, at_past, goes_on}
 use Rattle.squeezing.proofs.landing.landing_from.Goals as goal
