@@ -1,6 +1,7 @@
 -- Laws of what the exported functions return and write, from what their contracts say.
 -- Assumes nothing.
 use Rattle.std.proofs.Common.{ℕ, ◌≤◌, ◌≡◌, refl, ◌∙◌, ap, sym, subst, arith, List, [], ◌∷◌, ◌++◌, length, take, drop, Option, None, Some, Result, Ok, Err}
+use Rattle.std.specs.Prelude.{IfOk}
 use Rattle.std.specs.Result.{result_unwrap_or}
 use Rattle.std.proofs.Math.ListN.{get_or}
 use Rattle.std.proofs.Math.Seq.{take-append_seam}
@@ -19,12 +20,13 @@ use Rattle.walk.specs.Walk.{walk_from, walk_of}
 use Rattle.walk.proofs.Depth.{walk_depth}
 use Rattle.jump.specs.Jump.{jump_of}
 use Rattle.climb.specs.Climb.{climb_of}
+use Rattle.squeezing.specs.Squeezes.{Squeezes}
 use Rattle.agreement.specs.Agreement.{enclosing, BothAnswer, BothRefuse, ClimbsThem}
 use Rattle.agreement.proofs.Agreement.{condition3}
 use Rattle.words.specs.Written.{written}
 use Rattle.reply.specs.Reply.{Replied}
-use Rattle.reply.specs.Replies.{annotation_reply, check_reply, finding_reply, chain_words}
-use Rattle.mitrelilac.specs.Exported.{Call, call, SumsUp, CallMovesOn, count, chain_told, CallsAnswer, CallsRefuse, ClimbCallFinds, CallsMeetCondition3}
+use Rattle.reply.specs.Replies.{annotation_reply, check_reply, finding_reply, squeeze_reply, chain_words}
+use Rattle.mitrelilac.specs.Exported.{Call, call, SumsUp, CallMovesOn, CallSqueezes, count, chain_told, CallsAnswer, CallsRefuse, ClimbCallFinds, CallsMeetCondition3}
 
 -- the check returns 0 only where it passes
 passed : (r : Result Counts Refusal) {returned : ℕ} {before after : List ℕ} → Replied (check_reply r) returned before after →
@@ -44,6 +46,12 @@ unfolding written
 call_moves_on (Ok (Some x)) s at g moves z one = rw g.words moves
 call_moves_on (Ok None) s at g moves z one = absurd (omega (arith, ap (λ (out : List ℕ). get_or out 0 0) g.words))
 call_moves_on (Err e) s at g moves z one = absurd (omega (arith, number_above e, g.number))
+
+pub call_squeezes : (r : Result ℕ Refusal) (s : List ℕ) (start : ℕ) (buffer : List ℕ) {returned : ℕ} {before after : List ℕ} →
+    Replied (squeeze_reply r) returned before after → IfOk r (λ n. Squeezes s start (take n buffer)) → CallSqueezes s start (call returned after) buffer
+unfolding written
+call_squeezes (Ok n) s start buffer g squeezes z = rw g.words squeezes
+call_squeezes (Err e) s start buffer g squeezes z = absurd (omega (arith, number_above e, g.number))
 
 -- a chain of 64 positions at the most has 64 places
 full : (chain : List ℕ) → length chain ≤ 64 → length (places chain) ≡ 64

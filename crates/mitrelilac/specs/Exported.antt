@@ -3,6 +3,7 @@
 use Rattle.std.specs.Prelude.{ℕ, ◌+◌, ◌-◌, ◌<◌, ◌≤◌, ◌≡◌, List, [], ◌∷◌, length, take, drop, reverse, get_or}
 use Rattle.iter.specs.Step.{within}
 use Rattle.iter.specs.Reading.{Begins}
+use Rattle.squeezing.specs.Squeezes.{Squeezes}
 use Rattle.agreement.specs.Agreement.{OpenerBegins, enclosing}
 use Rattle.reply.specs.Replies.{chain_words}
 
@@ -23,6 +24,10 @@ abbrev pub CallMovesOn : List ℕ → ℕ → Call → Type 0
 CallMovesOn s at annotation =
     annotation.returned ≡ 0 → get_or annotation.out 0 0 ≡ 1 →
     (at < get_or annotation.out 4 0) × (get_or annotation.out 4 0 ≤ length s)
+
+-- Squeeze, where it returned 0: the first bytes of the buffer, as many as out[0] says, are the squeezed stream.
+abbrev pub CallSqueezes : List ℕ → ℕ → Call → List ℕ → Type 0
+CallSqueezes s start squeeze buffer = squeeze.returned ≡ 0 → Squeezes s start (take (get_or squeeze.out 0 0) buffer)
 
 -- The words of a finder's answer: out[0] is its count, and from out[1] on, 65 words, stand how many scopes there are and the 64 places
 -- (`chain_words`).

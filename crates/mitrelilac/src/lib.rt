@@ -22,7 +22,7 @@ ghost use Rattle.climb.specs.Climb.{climb_of};
 ghost use Rattle.squeezing.specs.Squeeze.{squeezed, squeeze_of, buffer_by};
 ghost use Rattle.reply.specs.Reply.{Replied};
 ghost use Rattle.reply.specs.Replies.{step_reply, kind_reply, decode_reply, name_reply, entry_reply, annotation_reply, check_reply, finding_reply, squeeze_reply};
-ghost use Rattle.mitrelilac.specs.Exported.{call, SumsUp, CallMovesOn};
+ghost use Rattle.mitrelilac.specs.Exported.{call, SumsUp, CallMovesOn, CallSqueezes};
 
 /// One step from a position. End: 0, position. A record: 1, index, where its bytes start, how many they are, next position.
 pub fn mitrelilac_step(stream: &[u8], position: usize, out: &mut [u64; 5]) -> u32
@@ -113,6 +113,7 @@ pub fn mitrelilac_climb(stream: &[u8], i: usize, out: &mut [u64; 66]) -> u32
 pub fn mitrelilac_squeeze(stream: &[u8], start: usize, buffer: &mut [u8], out: &mut [u64; 2]) -> u32
     ensures replied { Replied (squeeze_reply (squeeze_of stream.now start (length buffer.old))) result out.old out.new }
     ensures buffer { buffer.new ≡ buffer_by (squeeze_of stream.now start (length buffer.old)) (squeezed stream.now start) buffer.old }
+    ensures squeezes { CallSqueezes stream.now start (call result out.new) buffer.new }
 {
     reply::reply_squeeze(squeezing::squeeze(stream, start, buffer), out)
 }

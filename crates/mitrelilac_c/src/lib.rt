@@ -6,6 +6,7 @@
 
 pub mod condition3;
 
+ghost use Rattle.std.specs.Prelude.{◌≡◌, length};
 ghost use Rattle.constants.specs.Raw.{raw_kind};
 ghost use Rattle.symbol.specs.Decode.{decode};
 ghost use Rattle.symbol.specs.Name.{name_of};
@@ -16,9 +17,10 @@ ghost use Rattle.check_nesting.specs.Check.{check_of};
 ghost use Rattle.walk.specs.Walk.{walk_of};
 ghost use Rattle.jump.specs.Jump.{jump_of};
 ghost use Rattle.climb.specs.Climb.{climb_of};
+ghost use Rattle.squeezing.specs.Squeeze.{squeezed, squeeze_of, buffer_by};
 ghost use Rattle.reply.specs.Reply.{Replied};
-ghost use Rattle.reply.specs.Replies.{step_reply, kind_reply, decode_reply, name_reply, entry_reply, annotation_reply, check_reply, finding_reply};
-ghost use Rattle.mitrelilac.specs.Exported.{call, SumsUp, CallMovesOn};
+ghost use Rattle.reply.specs.Replies.{step_reply, kind_reply, decode_reply, name_reply, entry_reply, annotation_reply, check_reply, finding_reply, squeeze_reply};
+ghost use Rattle.mitrelilac.specs.Exported.{call, SumsUp, CallMovesOn, CallSqueezes};
 
 /// One step from a position. End: 0, position. A record: 1, index, where its bytes start, how many they are, next position.
 #[unsafe(no_mangle)]
@@ -118,6 +120,7 @@ pub extern "C" fn mitrelilac_squeeze(
 ) -> u32
     ensures replied { Replied (squeeze_reply (squeeze_of stream.now start (length buffer.old))) result out.old out.new }
     ensures buffer { buffer.new ≡ buffer_by (squeeze_of stream.now start (length buffer.old)) (squeezed stream.now start) buffer.old }
+    ensures squeezes { CallSqueezes stream.now start (call result out.new) buffer.new }
 {
     mitrelilac::mitrelilac_squeeze(stream, start, buffer, out)
 }
