@@ -1,6 +1,6 @@
 //! Asks the compiled library and compares it with the oracle. Whatever the library is lent lies at
 //! the very start and then at the very end of its pages, between pages that can't be touched, and
-//! the bytes can only be read.
+//! the bytes that it is asked about can only be read.
 
 // The oracle's own sources; not all of each is used here.
 #[allow(dead_code)]
