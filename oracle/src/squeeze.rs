@@ -1,5 +1,5 @@
-//! Squeezing out filler as document 02 says it, written plainly over pdb's iterator and decode: the records as a list, and a map from where
-//! they stand to where they go. pdb has none of it.
+//! Squeezing out filler as document 02 says it, written plainly over pdb's iterator and decode: the
+//! records as a list, and a map from where they stand to where they go. pdb has none of it.
 
 use std::collections::BTreeMap;
 use std::iter;

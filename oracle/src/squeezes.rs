@@ -1,4 +1,5 @@
-//! Questions about squeezing, of streams with fillers and nexts, and what the check, the walk finder and a second squeeze say of results.
+//! Questions about squeezing, of streams with fillers and nexts, and about results: to the check, the
+//! walk finder and a second squeeze.
 
 use std::iter;
 
@@ -30,7 +31,10 @@ fn everywhere(stream: &Stream) -> Vec<Question> {
     let first = stream.starts[0] as u64;
     let asked = |room, start| stream.asked(Op::Squeeze, room, start);
     let starts = (0..=length + 1).chain([(1 << 32) + first]);
-    let from_each = starts.map(|start| asked(length, start));
+    let from_each = starts.map(|start| {
+        result_of(stream, start);
+        asked(length, start)
+    });
     let into_each = (0..=length + 1).map(|room| asked(room, first));
     from_each.chain(into_each).collect()
 }
@@ -39,19 +43,23 @@ fn everywhere(stream: &Stream) -> Vec<Question> {
 pub fn questions(random: &mut Random) -> Vec<Question> {
     let stream = any_stream(random);
     let start = start(&stream, random);
-    let result = squeeze(&stream.bytes, start, u64::MAX);
+    let result = result_of(&stream, start);
     let room = match &result {
-        Ok(Squeezed(result)) => room(result.len(), random),
-        Err(_) => random.below(stream.bytes.len() + 300),
+        Some(result) => room(result.len(), random),
+        None => random.below(stream.bytes.len() + 300),
     };
     let mut questions = vec![stream.asked(Op::Squeeze, room as u64, start)];
-    if let Ok(Squeezed(result)) = result {
-        confirm(&stream.bytes, start, &result);
-        if random.one_in(16) {
-            questions.extend(about_result(result, start));
-        }
+    if let Some(result) = result.filter(|_| random.one_in(16)) {
+        questions.extend(about_result(result, start));
     }
     questions
+}
+
+/// The result of a squeeze that is not refused, held against document 02.
+fn result_of(stream: &Stream, start: u64) -> Option<Vec<u8>> {
+    let Squeezed(result) = squeeze(&stream.bytes, start, u64::MAX).ok()?;
+    confirm(&stream.bytes, start, &result);
+    Some(result)
 }
 
 /// Mostly that of the records; else one of a few from which the check passes, 0, 4, or any.
@@ -102,7 +110,7 @@ fn kept(stream: &[u8], start: u64) -> Vec<Symbol<'_>> {
     records.expect("a stream that passes the check")
 }
 
-/// Holds a result against what document 02 says of it.
+/// Asserts what document 02 says of a result, and that a second squeeze leaves it as it is.
 fn confirm(stream: &[u8], start: u64, result: &[u8]) {
     let counts = check(result, start).ok();
     let counts = counts.expect("the result passes the check");
@@ -193,8 +201,8 @@ fn longer(record: Vec<u8>, random: &mut Random) -> Vec<u8> {
     [record, random.bytes(behind)].concat()
 }
 
-/// Lays a next in each procedure and thunk, in one stream of four some that name no record; and in other records positions
-/// where they would be links.
+/// Lays a next in each procedure and thunk, in one stream of four some that name no record; and in
+/// other records positions where they would be links.
 fn lay_nexts(stream: &mut Stream, random: &mut Random) {
     let places = Places::of(stream);
     let mut nexts: Vec<usize> = places
