@@ -30,11 +30,19 @@ extern "C" {
         out: *mut u64,
     ) -> u32;
     fn mitrelilac_climb(stream: *const u8, length: usize, i: usize, out: *mut u64) -> u32;
+    fn mitrelilac_squeeze(
+        stream: *const u8,
+        length: usize,
+        start: usize,
+        buffer: *mut u8,
+        room: usize,
+        out: *mut u64,
+    ) -> u32;
     fn mitrelilac_decode(record: *const u8, length: usize, out: *mut u64) -> u32;
 }
 
 /// The operations that the library exports, each with the words that it is lent.
-pub const OPS: [(Op, usize); 10] = [
+pub const OPS: [(Op, usize); 11] = [
     (Op::Step, 5),
     (Op::Decode, 24),
     (Op::Name, 3),
@@ -45,9 +53,10 @@ pub const OPS: [(Op, usize); 10] = [
     (Op::Walk, 66),
     (Op::Jump, 66),
     (Op::Climb, 66),
+    (Op::Squeeze, 2),
 ];
 
-/// A call but for the words that it is lent.
+/// A call but for what it is lent to write to.
 #[derive(Clone, Copy)]
 pub struct Call {
     pub op: Op,
@@ -58,9 +67,14 @@ pub struct Call {
 }
 
 impl Call {
+    /// How many bytes it is lent to write to, if the operation writes bytes.
+    pub fn room(&self) -> Option<usize> {
+        (self.op == Op::Squeeze).then_some(self.arg as usize)
+    }
+
     /// # Safety
-    /// The pointers are to so many bytes and to as many words as the operation is lent.
-    pub unsafe fn make(self, out: *mut u64) -> u32 {
+    /// The pointers are to so many bytes, to as many as the room says, and to as many words as the operation is lent.
+    pub unsafe fn make(self, buffer: *mut u8, out: *mut u64) -> u32 {
         let Call {
             op, bytes, length, ..
         } = self;
@@ -78,6 +92,7 @@ impl Call {
                 Op::Walk => mitrelilac_walk(bytes, length, start, arg, out),
                 Op::Jump => mitrelilac_jump(bytes, length, start, arg, out),
                 Op::Climb => mitrelilac_climb(bytes, length, arg, out),
+                Op::Squeeze => mitrelilac_squeeze(bytes, length, start, buffer, arg, out),
                 _ => unreachable!("the library does not export {}", op.name()),
             }
         }

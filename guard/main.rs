@@ -1,6 +1,6 @@
 //! Asks the compiled library and compares it with the oracle. Whatever the library is lent lies at
 //! the very start and then at the very end of its pages, between pages that can't be touched, and
-//! the bytes can only be read.
+//! the bytes that it is asked about can only be read.
 
 // The oracle's own sources; not all of each is used here.
 #[allow(dead_code)]
@@ -29,6 +29,10 @@ mod records;
 mod row;
 #[path = "../oracle/src/scopes.rs"]
 mod scopes;
+#[path = "../oracle/src/squeeze.rs"]
+mod squeeze;
+#[path = "../oracle/src/squeezes.rs"]
+mod squeezes;
 #[path = "../oracle/src/steps.rs"]
 mod steps;
 #[path = "../oracle/src/words.rs"]
@@ -53,7 +57,7 @@ use pdb::{common, msf, symbol, tpi};
 use answer::Op;
 use library::{Call, OPS};
 use list::{parse_number, text, Case, Question};
-use pages::{Lent, Out, Place};
+use pages::{Lent, Place, Room};
 use random::Random;
 
 const USAGE: &str = "usage: guard list FILE                the cases of a list
@@ -115,7 +119,8 @@ struct Tally {
 
 struct Guard {
     lent: Lent,
-    out: Out,
+    out: Room<u64>,
+    buffer: Room<u8>,
     tallies: [Tally; OPS.len()],
     differences: u64,
 }
@@ -124,7 +129,8 @@ impl Guard {
     fn new() -> io::Result<Self> {
         Ok(Guard {
             lent: Lent::new()?,
-            out: Out::new()?,
+            out: Room::new(1, 0xa5c3_0f96_5a3c_f069)?,
+            buffer: Room::new(16, 0xa5)?,
             tallies: Default::default(),
             differences: 0,
         })
@@ -175,7 +181,14 @@ impl Guard {
             );
         };
         let untouchable = pages::untouchable(GREATEST + 1)?;
-        for op in [Op::Step, Op::Check, Op::Walk, Op::Jump, Op::Climb] {
+        for op in [
+            Op::Step,
+            Op::Check,
+            Op::Walk,
+            Op::Jump,
+            Op::Climb,
+            Op::Squeeze,
+        ] {
             giant(op, untouchable, GREATEST + 1, 0, &[5, 0, 0]);
         }
         let zeros = pages::zeros(GREATEST)?;
@@ -211,13 +224,15 @@ impl Guard {
         let Some(&(_, words)) = OPS.iter().find(|(op, _)| *op == call.op) else {
             unreachable!("the library does not export {}", call.op.name());
         };
+        let room = call.room();
         let out = self.out.lend(words, place);
-        // SAFETY: the bytes are lent for longer than the call, and the operation's words too.
-        let number = unsafe { call.make(out) };
-        let (lent, others_untouched) = self.out.lent(words, place);
-        let (written, rest) = lent.split_at(expected.len() - 1);
-        let untouched = others_untouched && rest.iter().all(|&word| word == Out::UNTOUCHED);
-        if untouched && u64::from(number) == expected[0] && written == &expected[1..] {
+        let buffer = room.map_or(ptr::null_mut(), |room| self.buffer.lend(room, place));
+        // SAFETY: the bytes are lent for longer than the call, and what it writes to too.
+        let number = unsafe { call.make(buffer, out) };
+        let (told, bytes) = written(call.op, expected);
+        let (lent, told) = self.out.lent(words, place, &told[1..]);
+        let wrote = room.map_or(true, |room| self.buffer.lent(room, place, &bytes).1);
+        if told && wrote && u64::from(number) == expected[0] {
             return;
         }
         self.differences += 1;
@@ -228,6 +243,9 @@ impl Guard {
                 text(expected),
                 text(&got)
             );
+            if !wrote {
+                println!("  and other bytes in the buffer");
+            }
         }
     }
 
@@ -245,6 +263,17 @@ impl Guard {
             "{asked} questions, each at both places, {} differences",
             self.differences
         );
+    }
+}
+
+/// The number and the words of an answer, and the bytes that come with them: those of a squeeze, eight to a word.
+fn written(op: Op, answer: &[u64]) -> (&[u64], Vec<u8>) {
+    match *answer {
+        [0, length, ref packed @ ..] if op == Op::Squeeze => {
+            let bytes = packed.iter().flat_map(|word| word.to_le_bytes());
+            (&answer[..2], bytes.take(length as usize).collect())
+        }
+        _ => (answer, Vec::new()),
     }
 }
 

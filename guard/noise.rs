@@ -19,6 +19,7 @@ pub fn question(random: &mut Random) -> Question {
     let position = |random: &mut Random| steps::position(bytes.len(), &[0, 4], random);
     let arg = match op {
         Op::Register => random.below(4) as u64,
+        Op::Squeeze => random.below(300) as u64,
         _ => position(random),
     };
     let start = position(random);

@@ -108,36 +108,45 @@ impl Lent {
     }
 }
 
-/// A page of words for answers.
-pub struct Out {
-    words: *mut u64,
+/// Pages of words or bytes that a callee can write to.
+pub struct Room<T> {
+    first: *mut T,
+    count: usize,
+    untouched: T,
 }
 
-impl Out {
-    const ROOM: usize = PAGE / 8;
-    pub const UNTOUCHED: u64 = 0xa5c3_0f96_5a3c_f069;
-
-    pub fn new() -> io::Result<Self> {
-        let words = between_guards(&memory(PAGE)?, PAGE, PROT_READ | PROT_WRITE)? as *mut u64;
-        Ok(Out { words })
+impl<T: Copy + PartialEq> Room<T> {
+    /// So many pages. This is what they hold throughout before a call.
+    pub fn new(pages: usize, untouched: T) -> io::Result<Self> {
+        let length = pages * PAGE;
+        let memory = memory(length)?;
+        Ok(Room {
+            first: between_guards(&memory, length, PROT_READ | PROT_WRITE)? as *mut T,
+            count: length / size_of::<T>(),
+            untouched,
+        })
     }
 
-    fn page(&mut self) -> &mut [u64] {
-        // SAFETY: the page is mapped as long as the process lives, and `self` is borrowed.
-        unsafe { std::slice::from_raw_parts_mut(self.words, Self::ROOM) }
+    fn all(&mut self) -> &mut [T] {
+        // SAFETY: the pages are mapped as long as the process lives, and `self` is borrowed.
+        unsafe { std::slice::from_raw_parts_mut(self.first, self.count) }
     }
 
-    /// Room for so many words, untouched.
-    pub fn lend(&mut self, words: usize, place: Place) -> *mut u64 {
-        self.page().fill(Self::UNTOUCHED);
-        self.words.wrapping_add(place.offset(Self::ROOM, words))
+    /// Room for so many, untouched.
+    pub fn lend(&mut self, length: usize, place: Place) -> *mut T {
+        let untouched = self.untouched;
+        self.all().fill(untouched);
+        self.first.wrapping_add(place.offset(self.count, length))
     }
 
-    /// The words lent last, and whether the rest of the page is as it was.
-    pub fn lent(&mut self, words: usize, place: Place) -> (&[u64], bool) {
-        let (before, rest) = self.page().split_at(place.offset(Self::ROOM, words));
-        let (lent, after) = rest.split_at(words);
-        let untouched = |rest: &[u64]| rest.iter().all(|&word| word == Self::UNTOUCHED);
-        (lent, untouched(before) && untouched(after))
+    /// Those lent last, and whether they begin with what was expected and all else in the pages is as it was.
+    pub fn lent(&mut self, length: usize, place: Place, expected: &[T]) -> (&[T], bool) {
+        let untouched = self.untouched;
+        let offset = place.offset(self.count, length);
+        let (before, rest) = self.all().split_at(offset);
+        let is_untouched = |rest: &[T]| rest.iter().all(|&value| value == untouched);
+        let as_expected = expected.len() <= length && rest.starts_with(expected);
+        let same = as_expected && is_untouched(before) && is_untouched(&rest[expected.len()..]);
+        (&rest[..length], same)
     }
 }

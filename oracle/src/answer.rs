@@ -1,4 +1,4 @@
-//! The operations, answered by pdb; the check and the finders by plain code over it.
+//! The operations, answered by pdb; the check, the finders and the squeeze by plain code over it.
 
 use fallible_iterator::FallibleIterator;
 use scroll::ctx::TryFromCtx;
@@ -8,6 +8,7 @@ use crate::list::Question;
 use crate::nesting;
 use crate::reading::{self, decode, symbols_from, Reading, Refusal};
 use crate::row::Answer;
+use crate::squeeze::squeeze;
 use crate::symbol::*;
 use crate::words::{class_of, Words};
 
@@ -50,6 +51,7 @@ ops! {
     Walk "walk" 41;
     Jump "jump" 42;
     Climb "climb" 43;
+    Squeeze "squeeze" 44;
 }
 
 impl Op {
@@ -112,6 +114,7 @@ fn reply(question: &Question) -> Reply<'_> {
         Op::Walk => Ok(whole(bytes, nesting::walk(bytes, start, arg)?)),
         Op::Jump => Ok(whole(bytes, nesting::jump(bytes, start, arg)?)),
         Op::Climb => Ok(whole(bytes, nesting::climb(bytes, arg)?)),
+        Op::Squeeze => Ok(whole(bytes, squeeze(bytes, start, arg)?)),
     }
 }
 

@@ -12,6 +12,8 @@ mod reading;
 mod records;
 mod row;
 mod scopes;
+mod squeeze;
+mod squeezes;
 mod steps;
 mod words;
 

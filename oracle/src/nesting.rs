@@ -67,28 +67,36 @@ pub fn opens(symbol: &Symbol) -> bool {
     symbol.starts_scope() || symbol.raw_kind() == S_LPROC32_ID
 }
 
-struct Links {
-    parent: u64,
-    end: u64,
+/// Where a record that opens a scope has its links; a next is there in procedures and thunks alone.
+pub const PARENT: usize = 2;
+pub const END: usize = 6;
+pub const NEXT: usize = 10;
+
+/// An opener's links, 0 where there is none.
+#[derive(Default)]
+pub struct Links {
+    pub parent: u64,
+    pub end: u64,
+    pub next: u64,
 }
 
 /// The links of an opener, none if decode refuses it.
-fn links(opener: &Symbol) -> Option<Links> {
+pub fn links(opener: &Symbol) -> Option<Links> {
     let (symbol, _) = decode(opener.raw_bytes()).ok()?;
-    let (parent, end) = match symbol {
-        SymbolData::Procedure(fields) => (fields.parent, fields.end),
-        SymbolData::InlineSite(fields) => (fields.parent, fields.end),
-        SymbolData::Thunk(fields) => (fields.parent, fields.end),
-        SymbolData::Block(fields) => (Some(fields.parent), fields.end),
-        SymbolData::SeparatedCode(fields) => (Some(fields.parent), fields.end),
+    let (parent, end, next) = match symbol {
+        SymbolData::Procedure(fields) => (fields.parent, fields.end, fields.next),
+        SymbolData::InlineSite(fields) => (fields.parent, fields.end, None),
+        SymbolData::Thunk(fields) => (fields.parent, fields.end, fields.next),
+        SymbolData::Block(fields) => (Some(fields.parent), fields.end, None),
+        SymbolData::SeparatedCode(fields) => (Some(fields.parent), fields.end, None),
         _ => panic!("a scope opens without links: {opener:?}"),
     };
-    let parent = parent.map_or(0, |parent| parent.0.into());
+    let [parent, next] = [parent, next].map(|link| link.map_or(0, |link| link.0.into()));
     let end = end.0.into();
-    Some(Links { parent, end })
+    Some(Links { parent, end, next })
 }
 
-fn index(symbol: &Symbol) -> u64 {
+pub fn index(symbol: &Symbol) -> u64 {
     symbol.index().0.into()
 }
 

@@ -11,8 +11,9 @@ use crate::symbol::*;
 const CONSTANT: u64 = 4;
 const USER_TYPE: u64 = 5;
 const REGISTERS: u64 = 6;
+pub const PROCEDURE: u64 = 9;
 const INLINE_SITE: u64 = 20;
-const THUNK: u64 = 26;
+pub const THUNK: u64 = 26;
 
 const THUNK_CODES: [u8; 8] = [0, 1, 2, 3, 4, 5, 6, 255];
 
@@ -49,7 +50,7 @@ fn layout(kind: u16) -> (usize, Tail) {
         CONSTANT => (4, Tail::NumericAndName),
         REGISTERS => (4, Tail::Registers),
         7 | 8 | 10 | 15 | 25 => (10, Tail::Name),
-        9 => (35, Tail::Name),
+        PROCEDURE => (35, Tail::Name),
         11 if kind == S_COMPILE3 => (22, Tail::Name),
         11 => (18, Tail::Name),
         12 => (0, Tail::Name),

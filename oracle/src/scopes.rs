@@ -5,17 +5,13 @@ use std::sync::LazyLock;
 
 use crate::answer::{class, Op};
 use crate::list::Question;
-use crate::nesting::opens;
+use crate::nesting::{opens, END, PARENT};
 use crate::random::Random;
 use crate::reading::{step, symbols_from};
 use crate::symbol::*;
 use crate::{records, steps};
 
 const OPS: [Op; 4] = [Op::Check, Op::Walk, Op::Jump, Op::Climb];
-
-/// Where a record that opens a scope has its links.
-const PARENT: usize = 2;
-const END: usize = 6;
 
 const CLOSERS: [u16; 3] = [S_END, S_PROC_ID_END, S_INLINESITE_END];
 
@@ -48,10 +44,10 @@ pub static REAL_RECORDS: LazyLock<Vec<&[u8]>> = LazyLock::new(|| {
 
 /// A stream, where its records start, the fillers and the stream's end included, and which of
 /// them open a scope.
-struct Stream {
-    bytes: Vec<u8>,
-    starts: Vec<usize>,
-    openers: Vec<usize>,
+pub struct Stream {
+    pub bytes: Vec<u8>,
+    pub starts: Vec<usize>,
+    pub openers: Vec<usize>,
 }
 
 impl Stream {
@@ -96,11 +92,11 @@ impl Stream {
         }
     }
 
-    fn position(&self, random: &mut Random) -> u64 {
+    pub fn position(&self, random: &mut Random) -> u64 {
         steps::position(self.bytes.len(), &self.starts, random)
     }
 
-    fn asked(&self, op: Op, arg: u64, start: u64) -> Question {
+    pub fn asked(&self, op: Op, arg: u64, start: u64) -> Question {
         let bytes = self.bytes.clone();
         Question {
             op,
@@ -131,7 +127,7 @@ fn link(records: &mut [Vec<u8>], first: usize) {
 }
 
 /// Sets a field that the bytes have room for.
-fn put(bytes: &mut [u8], field: usize, value: usize) {
+pub fn put(bytes: &mut [u8], field: usize, value: usize) {
     if let Some(field) = bytes.get_mut(field..field + 4) {
         field.copy_from_slice(&(value as u32).to_le_bytes());
     }
@@ -196,15 +192,25 @@ fn ask(op: Op, stream: &Stream, random: &mut Random) -> Question {
 
 /// A stream with links as they should be, at times nested too deep, or a damaged one.
 fn any_stream(random: &mut Random) -> Stream {
-    let mut records = match random.below(8) {
-        0 => tower(62 + random.below(6), random),
+    let records = match random.below(8) {
+        0 => high_tower(random),
         _ => nested(random),
     };
+    stream_of(records, |_, _| (), random)
+}
+
+/// A stream of these records with links as they should be, and whatever else is laid in it, or a damaged one.
+pub fn stream_of(
+    mut records: Vec<Vec<u8>>,
+    lay: fn(&mut Stream, &mut Random),
+    random: &mut Random,
+) -> Stream {
     let harm = random.below(8);
     if harm == 0 {
         disorder(&mut records, random);
     }
     let mut stream = Stream::of(records, random);
+    lay(&mut stream, random);
     if matches!(harm, 1..=3) {
         damage(&mut stream, random);
     }
@@ -212,7 +218,7 @@ fn any_stream(random: &mut Random) -> Stream {
 }
 
 /// Records in which every scope that opens closes.
-fn nested(random: &mut Random) -> Vec<Vec<u8>> {
+pub fn nested(random: &mut Random) -> Vec<Vec<u8>> {
     let mut records = Vec::new();
     let mut open = Vec::new();
     for _ in 0..random.below(12) {
@@ -230,8 +236,9 @@ fn nested(random: &mut Random) -> Vec<Vec<u8>> {
     records
 }
 
-/// Scopes within one another, other records and closed scopes among them.
-fn tower(depth: usize, random: &mut Random) -> Vec<Vec<u8>> {
+/// About as many scopes within one another as may be open, other records and closed scopes among them.
+pub fn high_tower(random: &mut Random) -> Vec<Vec<u8>> {
+    let depth = 62 + random.below(6);
     let mut records = Vec::new();
     let mut open = Vec::new();
     for _ in 0..depth {

@@ -49,9 +49,7 @@ fn stream(random: &mut Random) -> (Vec<u8>, Vec<usize>) {
 
 pub fn record(random: &mut Random) -> Vec<u8> {
     if random.one_in(3) {
-        let filler: u16 = random.pick(&[S_ALIGN, S_SKIP]);
-        let length = random.below(8);
-        return [filler.to_le_bytes().to_vec(), random.bytes(length)].concat();
+        return filler(8, random);
     }
     let kind = records::kind(random);
     let mut record = records::well_formed(kind, random);
@@ -61,6 +59,13 @@ pub fn record(random: &mut Random) -> Vec<u8> {
         _ => record.truncate(16),
     }
     record
+}
+
+/// A filler of either kind with fewer than so many bytes behind it.
+pub fn filler(bound: usize, random: &mut Random) -> Vec<u8> {
+    let kind: u16 = random.pick(&[S_ALIGN, S_SKIP]);
+    let length = random.below(bound);
+    [kind.to_le_bytes().to_vec(), random.bytes(length)].concat()
 }
 
 pub fn damage(stream: &mut Vec<u8>, starts: &[usize], random: &mut Random) {

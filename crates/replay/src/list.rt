@@ -1,6 +1,7 @@
 // The list: blocks of cases, filled up with zeros, each case an operation, its argument and start, the bytes it is asked about and the
 // oracle's answer in words.
 use crate::answer::{FREE, WORDS, Words, answer};
+use crate::squeeze::{SQUEEZE, is_squeezed};
 use common::buffer::ParseBuffer;
 
 /// What was replayed so far.
@@ -28,7 +29,7 @@ impl Tally {
 }
 
 /// Reads an unsigned LEB128 number, of ten bytes at the most.
-fn number(list: &mut ParseBuffer) -> u64 {
+pub fn number(list: &mut ParseBuffer) -> u64 {
     let mut value = 0;
     for k in 0..10u32 {
         let Ok(b) = list.parse::<u8>() else {
@@ -68,7 +69,11 @@ fn replay_case(list: &mut ParseBuffer) -> bool {
         return false;
     };
     list.pos += len;
-    is_answer(list, &answer(op, arg, start, bytes))
+    if op == SQUEEZE {
+        is_squeezed(list, arg as usize, start as usize, bytes)
+    } else {
+        is_answer(list, &answer(op, arg, start, bytes))
+    }
 }
 
 /// Replays a block. (A case takes a byte or more, so that there are no more than bytes.)

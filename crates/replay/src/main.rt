@@ -5,6 +5,7 @@
 
 mod answer;
 mod list;
+mod squeeze;
 
 use list::Tally;
 use std::io::{self, Read};
