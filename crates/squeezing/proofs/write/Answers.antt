@@ -94,7 +94,7 @@ put_link-requires-clause-within c =
     rw (c.put-in-Ok-Record.ensures, copied_length g it, c.innermost-in-Closes.ensures ∙ ap (λ l. innermost (reverse l)) c.deref-in-Closes.ensures.0) (end_fits g it (role_here g it c.in-Closes.ensures))
 
 pub put_link-requires-clause-fits : goal.put_link-requires-clause-fits
-put_link-requires-clause-fits c = here_fits c.loop-r.invariant (record_of _ _ c.in-Ok-Record.ensures c.in-Ok-Record.field-0-is)
+put_link-requires-clause-fits c = omega (arith, here_fits c.loop-r.invariant (record_of _ _ c.in-Ok-Record.ensures c.in-Ok-Record.field-0-is))
 
 pub loop-r-preserved : goal.loop-r-preserved
 loop-r-preserved c =
