@@ -2,11 +2,16 @@
 // makes of it, or why it refuses.
 #![tactic(auto)]
 
+ghost use Rattle.std.specs.Prelude.{◌≤◌, length, IfOk};
+
 use common::Refusal;
 use std::io::{self, Write};
 
-/// The squeezed stream, from behind its signature on, in lent bytes that hold any that is read: the length written.
-fn squeeze(s: &[u8], buffer: &mut [u8]) -> Result<usize, Refusal> {
+/// Squeezes a stream, from behind its signature on, into a lent buffer, if the listing would take it: the length written.
+#[tactic(auto, unfolding(squeezing::specs::Squeeze::squeeze_of))]
+fn squeeze(s: &[u8], buffer: &mut [u8]) -> Result<usize, Refusal>
+    ensures { IfOk result (λ n. n ≤ length buffer.new) }
+{
     if listing::MAX_LISTED < s.len() {
         return Err(Refusal::TooLong);
     }
