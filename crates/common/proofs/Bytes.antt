@@ -1,10 +1,12 @@
 -- Numbers in a list of bytes: on what they depend, and what becomes of them where bytes are put in the place of others.
 -- Assumes nothing.
 use Rattle.std.proofs.Common.{ℕ, zero, suc, ◌+◌, ◌^◌, ◌≤◌, ◌<◌, ◌≡◌, refl, sym, ap, ◌∙◌, arith, List, ◌++◌, append_assoc, length, take, drop, get_or}
+use lib.Seq.{take-append_seam, take-append-add, drop-append-add}
 use Rattle.std.specs.Int.{w32, to_le_bytes}
-use Rattle.std.proofs.lemmas.List.{get_or-append-add, get_or_append_left, get_or-take, get_or-drop, length-take, length-take-le, length-drop, length-append, drop-drop, drop_at, take-append-drop, get_or_past}
+use Rattle.std.proofs.lemmas.Grind.{common_steps}
+use Rattle.std.proofs.lemmas.List.{get_or-append-add, get_or_append_left, get_or-take, get_or-drop, length-take, length-take-le, length-drop, length-append, drop-drop, drop_at}
 use Rattle.std.proofs.lemmas.Slice.{drop-put_mid}
-use Rattle.std.proofs.lemmas.Nat.{from_le_bytes-to_le_bytes_4, le_bytes_4}
+use Rattle.std.proofs.lemmas.Nat.{from_le_bytes-to_le_bytes_4}
 use Rattle.common.specs.Bytes.{le, be, put, put_u32}
 
 -- a number that stands behind some bytes does not depend on them
@@ -32,7 +34,7 @@ module _ (at : ℕ) (xs s : List ℕ) where
   length_put fits = rw put_is (simp (length-append, length-take, length-drop) (omega arith))
 
   module _ (within : at ≤ length s) where
-    pub drop_put_here : drop at (put at xs s) ≡ xs ++ drop (at + length xs) s
+    drop_put_here : drop at (put at xs s) ≡ xs ++ drop (at + length xs) s
     drop_put_here = rw put_is (drop_at (take at s) _ at (length-take-le at s within))
 
     pub drop_put : (k : ℕ) → at + length xs ≤ k → drop k (put at xs s) ≡ drop k s
@@ -55,18 +57,18 @@ unfolding le
 le_put_u32 at x s within fits =
     le_drop 4 at (put_u32 at x s) ∙ rw (drop_put_here at (to_le_bytes w32 x) s within) (omega (arith, from_le_bytes-to_le_bytes_4 x fits))
 
--- a number put in its own place
-take_small : (n : ℕ) (s : List ℕ) → ((i : ℕ) → get_or s i 0 < 256) → (i : ℕ) → get_or (take n s) i 0 < 256
-take_small n s small i = grind (arith, small i, get_or-take n s i 0, get_or_past (take n s) i 0, length-take n s)
+-- bytes put where a list ends that stands in front of what is left of another; put behind a list; put within it
+pub put_at_end : (out xs old : List ℕ) {n : ℕ} → length out ≡ n → put n xs (out ++ drop n old) ≡ (out ++ xs) ++ drop (n + length xs) old
+unfolding put
+put_at_end out xs old {n} e =
+    rw (sym e, take-append_seam out (drop (length out) old), drop-append-add out (drop (length out) old) (length xs), drop-drop (length xs) (length out) old) refl
 
-four_bytes : (s : List ℕ) → 4 ≤ length s → ((i : ℕ) → get_or s i 0 < 256) → to_le_bytes w32 (le 4 s 0) ++ drop 4 s ≡ s
-unfolding le
-four_bytes s long small =
-    ap (λ xs. xs ++ drop 4 s) (le_bytes_4 (take 4 s) _ (length-take-le 4 s long) (take_small 4 s small) (omega (arith, get_or-take {A = ℕ})))
-    ∙ take-append-drop 4 s
+pub put_behind : (out xs bytes : List ℕ) (at : ℕ) {n : ℕ} → length out ≡ n → put (n + at) xs (out ++ bytes) ≡ out ++ put at xs bytes
+unfolding put
+put_behind out xs bytes at {n} e =
+    let on : length out + at + length xs ≡ length out + (at + length xs) = omega arith in
+    rw (sym e, on, take-append-add out bytes at, drop-append-add out bytes (at + length xs)) (simp append_assoc)
 
-pub put_u32_own : (at : ℕ) (s : List ℕ) → at + 4 ≤ length s → ((i : ℕ) → get_or s i 0 < 256) → put_u32 at (le 4 s at) s ≡ s
-put_u32_own at s fits small =
-    let here : to_le_bytes w32 (le 4 (drop at s) 0) ++ drop 4 (drop at s) ≡ drop at s =
-    four_bytes (drop at s) (omega (arith, length-drop at s)) (λ i. rw (get_or-drop at s i 0) (small (at + i))) in
-    put_is at (to_le_bytes w32 (le 4 s at)) s ∙ rw (le_drop 4 at s, ← drop-drop 4 at s, here) (take-append-drop at s)
+pub put_before : (out xs bytes : List ℕ) (at : ℕ) → at + length xs ≤ length out → put at xs (out ++ bytes) ≡ put at xs out ++ bytes
+unfolding put
+put_before out xs bytes at fits = grind (arith, common_steps)

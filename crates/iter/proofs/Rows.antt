@@ -15,11 +15,11 @@ use Rattle.iter.proofs.Reading.{own, step_fits, read_by}
 use Rattle.iter.proofs.Records.{le_part, read-ind, bytes-length}
 
 -- where a frame fits, it is read, and a step yields its record unless that is a filler
-pub frame_there : (t : List ℕ) (p : ℕ) (f : Frame) → Fits t p f → frame_at t p ≡ Ok (Some f)
+frame_there : (t : List ℕ) (p : ℕ) (f : Frame) → Fits t p f → frame_at t p ≡ Ok (Some f)
 unfolding frame_at
 frame_there t p f w = grind (arith, common_steps, w)
 
-pub scan_there : (t : List ℕ) (p : ℕ) (f : Frame) → Fits t p f → is_filler f.kind ≡ false → length t ≤ 4294967295 →
+scan_there : (t : List ℕ) (p : ℕ) (f : Frame) → Fits t p f → is_filler f.kind ≡ false → length t ≤ 4294967295 →
     scan_of t p ≡ plain (Ok (N.Record (framed p f)))
 unfolding scan_of scan_from
 scan_there t p f w k small = grind (arith, common_steps, w, frame_there t p f w)
@@ -69,7 +69,7 @@ module _ (s t : List ℕ) (at : ℕ) (it : Record) (e : (scan_of s at).step ≡ 
         go b zero h = absurd (omega (arith, in_t))
         go b (suc j) h = rw (frame_there t p f (fits_alike s t it.index p f same (omega (arith, w)) (omega (arith, in_t)) w), k, (ih d).1 j (omega arith))
 
-    pub scan_kept : length t ≤ 4294967295 → scan_of t at ≡ scan_of s at
+    scan_kept : length t ≤ 4294967295 → scan_of t at ≡ scan_of s at
     scan_kept small =
         let y = step_fits s at it e in
         let here = scan_inside s at (omega arith) y.small in
@@ -77,23 +77,14 @@ module _ (s t : List ℕ) (at : ℕ) (it : Record) (e : (scan_of s at).step ≡ 
         let on = alike (ap (λ c. c.step) (sym here) ∙ e) in
         scan_inside t at (omega arith) small ∙ on.1 (length t) (omega arith) ∙ sym here
 
--- the same where the bytes of the two are one up to its kind
-pub scan_same : (s t : List ℕ) (at : ℕ) (it : Record) → (scan_of s at).step ≡ Ok (N.Record it) → take (it.index + 4) t ≡ take (it.index + 4) s →
-    it.next ≤ length t → length t ≤ 4294967295 → scan_of t at ≡ scan_of s at
-scan_same s t at it e same h small =
-    let y = step_fits s at it e in
-    scan_kept s t at it e (grind (arith, common_steps, ap (take it.index) same))
-    (fits_alike s t (it.index + 4) it.index (frame_of it) same (omega arith) (omega arith) (own s at it e).fits) small
-
 -- the frame of a record's bytes
 abbrev pub frame_of_bytes : List ℕ → Frame
 frame_of_bytes bytes = record { kind = le 2 bytes 0; len = length bytes }
 
--- the record of a reading is no filler, and stands in the stream with its frame and its bytes
+-- the record of a reading is no filler, and stands in the stream with its frame
 pub record Whole (s : List ℕ) (r : Rec) : Type 0 where
   pub fits : Fits s r.index (frame_of_bytes r.bytes)
   pub kept : is_filler (le 2 r.bytes 0) ≡ false
-  pub bytes_are : take (length r.bytes) (drop (r.index + 2) s) ≡ r.bytes
 
 abbrev pub Wholes : List ℕ → List Rec → Type 0
 Wholes s [] = Unit
@@ -104,7 +95,7 @@ whole s at it e =
     let o = own s at it e in
     let long = bytes-length s at it e in
     let kind : le 2 (bytes_at s it) 0 ≡ it.kind = grind (arith, le_part 2 s it.start it.len 0, o) in
-    record { fits = rw (kind, long) o.fits; kept = rw kind o.kept; bytes_are = rw (long, o.starts) }
+    record { fits = rw (kind, long) o.fits; kept = rw kind o.kept }
 
 pub wholes : (s : List ℕ) (at : ℕ) → Wholes s (read_of s at).recs
 wholes s = read-ind s (λ at r. Wholes s r.recs) (λ at q e. tt) (λ at x e. tt) (λ at it e ih. (whole s at it e, ih))
@@ -176,10 +167,6 @@ read_left t (f ∷ fs) at ok is small =
     let there = scan_there t at (frame_of_bytes f.body) (fits_there t at fs ok.0 is) ok.0.kept small in
     let rest = read_left t fs (at + 2 + length f.body) ok.1 (rest_there t at fs ok.0 is) small in
     read_by t at (Ok (N.Record (framed at (frame_of_bytes f.body)))) (ap (λ c. c.step) there) ∙ rw (there, bytes_there t at fs ok.0 is, rest)
-
-pub read_row : (before : List ℕ) (fs : List Piece) → Sounds fs → length (before ++ row fs) ≤ 4294967295 →
-    read_of (before ++ row fs) (length before) ≡ to_end (laid (length before) fs)
-read_row before fs ok small = read_left (before ++ row fs) fs (length before) ok (drop_at before (row fs) (length before) refl) small
 
 -- The reading of a stream that is the same up to a record that a step yields, and has a row from there on, first a record of the same kind and
 -- length: what the step passes over is kept.

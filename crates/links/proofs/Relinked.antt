@@ -1,9 +1,10 @@
 -- Links put in the place of a record's own: the record is as long, of its kind and read as before, and its links are those.
 -- Assumes nothing.
-use Rattle.std.proofs.Common.{ℕ, ◌≡◌, refl, sym, ◌∙◌, ap, ◌+◌, ◌≤◌, ◌<◌, ◌^◌, arith, Bool, true, false, cond, List, length, drop, get_or, Some, Ok, Err}
+use Rattle.std.proofs.Common.{ℕ, ◌≡◌, refl, sym, ◌∙◌, ap, ◌+◌, ◌≤◌, ◌<◌, ◌^◌, ◌++◌, append_assoc, length-append, arith, Bool, true, false, cond, List, length, drop, Some, Ok, Err}
 use lib.Dec.{ltb, leb}
-use Rattle.common.specs.Bytes.{le, put_u32}
-use Rattle.common.proofs.Bytes.{le_drop, length_put, drop_put, le_behind_put, le_before_put, le_put_u32, put_u32_own}
+use Rattle.std.specs.Int.{w32, to_le_bytes}
+use Rattle.common.specs.Bytes.{le, put, put_u32}
+use Rattle.common.proofs.Bytes.{le_drop, length_put, drop_put, le_behind_put, le_before_put, le_put_u32, put_before, put_behind}
 use Rattle.common.specs.Reader.{Read, Reader, done, next, number, runs_out, ◌>>=◌}
 use Rattle.common.specs.declared.Refusal.{Refusal}
 use Rattle.common.specs.declared.Refusal.TheVariants.{TooLong}
@@ -175,13 +176,6 @@ module _ (s : List ℕ) {l : Links} (opens : nesting_role_of s ≡ Opens) (read 
     pub with_links_kind : raw_kind (with_links m s) ≡ raw_kind s
     with_links_kind = sym (kinds with_links_placed.relinked)
 
-    pub with_links_role : nesting_role_of (with_links m s) ≡ nesting_role_of s
-    unfolding nesting_role_of
-    with_links_role = ap nesting_role with_links_kind
-
-    pub with_links_behind : (at : ℕ) → 14 ≤ at → drop at (with_links m s) ≡ drop at s
-    with_links_behind at l = sym (with_links_placed.relinked.behind at l)
-
     pub links_of_with_links : m.parent < 2 ^ 32 → m.end < 2 ^ 32 → m.next < 2 ^ 32 → (has_next (raw_kind s) ≡ false → m.next ≡ 0) → links_of (with_links m s) ≡ Some m
     links_of_with_links p e n none =
         links_of_answered (with_links m s) (sym (decoded with_links_placed.relinked opens) ∙ ap answered (was_read s read).1)
@@ -191,10 +185,32 @@ module _ (s : List ℕ) {l : Links} (opens : nesting_role_of s ≡ Opens) (read 
         by true h = rw h (with_links_placed.next n h)
         by false h = rw h (sym (none h))
 
-  pub with_links_own : ((i : ℕ) → get_or s i 0 < 256) → with_links l s ≡ s
-  unfolding with_links
-  with_links_own small = rw (links_is s read, put_u32_own 2 s (omega (arith, links_within)) small) (by (has_next (raw_kind s)) next_within)
+-- bytes put in a record that stands behind others, with its length field between
+pub put_in_record : (out head bytes xs : List ℕ) (at : ℕ) {n : ℕ} → length out ≡ n → length head ≡ 2 → put (n + 2 + at) xs (out ++ (head ++ bytes)) ≡ out ++ (head ++ put at xs bytes)
+put_in_record out head bytes xs at {n} e h =
+    let long : length (out ++ head) ≡ n + 2 = length-append out head ∙ omega arith in
+    ap (put (n + 2 + at) xs) (sym (append_assoc out head bytes)) ∙ put_behind (out ++ head) xs bytes at long ∙ append_assoc out head (put at xs bytes)
+
+module _ (parent next : ℕ) (bytes : List ℕ) (room : 10 ≤ length bytes) where
+  -- a parent, and a next where there is one, put in a record
+  pub links_length : (n : Bool) → (n ≡ true → 14 ≤ length bytes) → length (cond n (put_u32 10 next (put_u32 2 parent bytes)) (put_u32 2 parent bytes)) ≡ length bytes
+  links_length true more = let room_2 : 14 ≤ length bytes = more refl in grind (arith, length_put)
+  links_length false more = grind (arith, length_put)
+
+  pub links_put : (out head rest : List ℕ) {m : ℕ} → length out ≡ m → length head ≡ 2 → (n : Bool) → (n ≡ true → 14 ≤ length bytes) →
+      cond n (put_u32 (m + 2 + 10) next (put_u32 (m + 2 + 2) parent ((out ++ (head ++ bytes)) ++ rest))) (put_u32 (m + 2 + 2) parent ((out ++ (head ++ bytes)) ++ rest))
+      ≡ (out ++ (head ++ cond n (put_u32 10 next (put_u32 2 parent bytes)) (put_u32 2 parent bytes))) ++ rest
+  links_put out head rest {m} e h = by
     where
-      by : (n : Bool) → (n ≡ true → 14 ≤ length s) → put_u32 6 (le 4 s 6) (cond n (put_u32 10 (cond n (le 4 s 10) 0) s) s) ≡ s
-      by true room = rw (put_u32_own 10 s (room refl) small) (put_u32_own 6 s links_within small)
-      by false room = put_u32_own 6 s links_within small
+      one : (x at : ℕ) (bs : List ℕ) → at + 4 ≤ length bs → put_u32 (m + 2 + at) x ((out ++ (head ++ bs)) ++ rest) ≡ (out ++ (head ++ put_u32 at x bs)) ++ rest
+      one x at bs fits =
+          let long : length (out ++ (head ++ bs)) ≡ m + 2 + length bs = length-append out (head ++ bs) ∙ omega (arith, length-append head bs) in
+          put_before (out ++ (head ++ bs)) (to_le_bytes w32 x) rest (m + 2 + at) (omega arith) ∙ ap (λ l. l ++ rest) (put_in_record out head bs (to_le_bytes w32 x) at e h)
+
+      by : (n : Bool) → (n ≡ true → 14 ≤ length bytes) →
+          cond n (put_u32 (m + 2 + 10) next (put_u32 (m + 2 + 2) parent ((out ++ (head ++ bytes)) ++ rest))) (put_u32 (m + 2 + 2) parent ((out ++ (head ++ bytes)) ++ rest))
+          ≡ (out ++ (head ++ cond n (put_u32 10 next (put_u32 2 parent bytes)) (put_u32 2 parent bytes))) ++ rest
+      by true more =
+          let long = length_put 2 (to_le_bytes w32 parent) bytes (omega arith) in
+          ap (put_u32 (m + 2 + 10) next) (one parent 2 bytes (omega arith)) ∙ one next 10 (put_u32 2 parent bytes) (omega (arith, more refl))
+      by false more = one parent 2 bytes (omega arith)

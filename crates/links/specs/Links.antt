@@ -1,6 +1,6 @@
 -- What the check, the finders and the squeeze look at in an opener (document 01, "Check", "Jump finder", "Climb finder"; document 02, M-103):
 -- its links.
-use Rattle.std.specs.Prelude.{ℕ, ◌≡◌, List, Bool, true, false, cond, Option, None, Some, unwrap_or, Ok, Err}
+use Rattle.std.specs.Prelude.{ℕ, ◌+◌, ◌≡◌, List, Bool, true, false, cond, Option, None, Some, unwrap_or, Ok, Err}
 use Rattle.common.specs.Bytes.{le, put_u32}
 use Rattle.common.specs.Reader.{Read}
 use Rattle.constants.specs.Kind.{class_of}
@@ -54,13 +54,14 @@ links_by bytes (Err e) = None
 unfoldable pub links_of : List ℕ → Option Links
 links_of bytes = links_by bytes (decode bytes)
 
--- the record with these links in the place of its own: the parent and the next, and the end
-abbrev pub with_parent_and_next : Links → List ℕ → List ℕ
-with_parent_and_next l bytes =
-    cond (has_next (raw_kind bytes)) (put_u32 next_at l.next (put_u32 parent_at l.parent bytes)) (put_u32 parent_at l.parent bytes)
+-- the bytes, where an opener of this kind stands from `at` on, with this parent, and this next if it has one, put in it
+abbrev pub put_parent_and_next : ℕ → ℕ → ℕ → ℕ → List ℕ → List ℕ
+put_parent_and_next kind at parent next bytes =
+    cond (has_next kind) (put_u32 (at + next_at) next (put_u32 (at + parent_at) parent bytes)) (put_u32 (at + parent_at) parent bytes)
 
+-- the record with these links in the place of its own
 unfoldable pub with_links : Links → List ℕ → List ℕ
-with_links l bytes = put_u32 end_at l.end (with_parent_and_next l bytes)
+with_links l bytes = put_u32 end_at l.end (put_parent_and_next (raw_kind bytes) 0 l.parent l.next bytes)
 
 -- The links of the typed records that open a scope, by their fields. A parent or a next that is none is 0.
 abbrev pub linked : ℕ → ℕ → ℕ → Links

@@ -1,6 +1,6 @@
 -- Laws of the planning loop.
 -- Assumes nothing.
-use Rattle.std.proofs.Common.{ℕ, ◌+◌, ◌≤◌, ◌≡◌, refl, sym, ap, ◌∙◌, arith, List, ◌∷◌, length, true, false, Option, None, Some, eqb, is_some, ◌||◌, Result, Ok, Err}
+use Rattle.std.proofs.Common.{cond, ℕ, ◌+◌, ◌≤◌, ◌≡◌, refl, sym, ap, ◌∙◌, arith, List, ◌∷◌, length, true, false, Option, None, Some, eqb, is_some, ◌||◌, Result, Ok, Err}
 use Rattle.std.specs.Prelude.{sum_by, IsSome}
 use Rattle.std.specs.Result.{result_and}
 use Rattle.std.proofs.lemmas.Grind.{common_steps}
@@ -39,23 +39,14 @@ pub next_there : (bytes : List ℕ) (kind : ℕ) → kind ≡ raw_kind bytes →
 unfolding nesting_role_of
 next_there bytes kind k h o n = let r = read_links bytes h (rw k at o) in next_within bytes (rw k at o) r.1 (rw k at n)
 
--- the next that stands in the record of a kind that has one, and 0 in another
-module _ (bytes : List ℕ) {kind : ℕ} (k : kind ≡ raw_kind bytes) (h : Readable bytes) where
-  pub next_stands : nesting_role kind ≡ Opens → has_next kind ≡ true → le 4 bytes 10 ≡ next_by (record_links bytes)
-  unfolding record_links nesting_role_of
-  next_stands o n =
-      let r = read_links bytes h (rw k at o) in
-      rw (sym k, o, r.1, links_is bytes r.1, sym k, n) refl
+-- the next of an opener is the one that stands in it
+pub next_stands : (bytes : List ℕ) {kind : ℕ} → kind ≡ raw_kind bytes → Readable bytes → nesting_role kind ≡ Opens → cond (has_next kind) (le 4 bytes 10) 0 ≡ next_by (record_links bytes)
+unfolding record_links nesting_role_of
+next_stands bytes k h o =
+    let r = read_links bytes h (rw k at o) in
+    rw (sym k, o, r.1, links_is bytes r.1, sym k) refl
 
-  pub no_next : has_next kind ≡ false → 0 ≡ next_by (record_links bytes)
-  unfolding record_links nesting_role_of
-  no_next n = by (nesting_role (raw_kind bytes)) refl
-    where
-      by : (ro : Role) → nesting_role (raw_kind bytes) ≡ ro → 0 ≡ next_by (links_by_role ro bytes)
-      by Opens o = let r = read_links bytes h o in rw (r.1, links_is bytes r.1, sym k, n) refl
-      by Closes o = refl
-      by Neither o = refl
-
+-- and another record has none
 pub next_of_other : (bytes : List ℕ) {kind : ℕ} → kind ≡ raw_kind bytes → {ro : Role} → ro ≡ nesting_role kind → opens ro ≡ false → 0 ≡ next_by (record_links bytes)
 unfolding record_links nesting_role_of
 next_of_other bytes k {ro} e n = rw (sym k, sym e) (by ro n)

@@ -9,7 +9,7 @@ use Rattle.std.proofs.lemmas.Grind.{common_steps}
 use Rattle.std.specs.Int.{w32, to_le_bytes}
 use Rattle.common.specs.declared.Refusal.{Refusal}
 use Rattle.common.specs.Bytes.{put, put_u32}
-use Rattle.common.proofs.Bytes.{length_put}
+use Rattle.common.proofs.Bytes.{length_put, put_at_end, put_before}
 use Rattle.constants.specs.Raw.{raw_kind, nesting_role_of}
 use Rattle.constants.specs.Kind.{nesting_role}
 use Rattle.constants.specs.declared.Role.{Role}
@@ -21,9 +21,9 @@ use Rattle.iter.specs.declared.Next.TheVariants as N
 use Rattle.iter.proofs.Reading.{step_fits, read_by}
 use Rattle.iter.proofs.Records.{kind_of, role_of_lem, rising, bytes-length}
 use Rattle.iter.proofs.Rows.{wholes}
-use Rattle.links.specs.Links.{has_next, links_of, with_parent_and_next, with_links}
+use Rattle.links.specs.Links.{has_next, links_of, put_parent_and_next, with_links}
 use Rattle.links.specs.declared.Links.{Links}
-use Rattle.links.proofs.Relinked.{links_within, next_within}
+use Rattle.links.proofs.Relinked.{links_within, next_within, put_in_record, links_length, links_put}
 use Rattle.check_nesting.specs.declared.act.Open.{Open}
 use Rattle.check_nesting.proofs.Checks.{popped}
 use Rattle.check_nesting.specs.Stack.{open_scope, inner_index}
@@ -32,55 +32,9 @@ use Rattle.squeezing.specs.declared.landing.Landing.{Landing}
 use Rattle.squeezing.specs.Squeeze.{moved_link, moved_links, record_links, next_by, moved, row}
 use Rattle.squeezing.specs.Landing.{landing_at, Lands}
 use Rattle.squeezing.specs.Plan.{Readable}
-use Rattle.squeezing.specs.Write.{squeezed_at, put_parent_and_next, innermost}
+use Rattle.squeezing.specs.Write.{squeezed_at, innermost}
 use Rattle.squeezing.proofs.Moved.{record_links_is, moved_is, moved_length, moved_opener}
 use Rattle.squeezing.proofs.Landings.{lands_here, lands_behind, first_lands, lands_within}
-
--- bytes put behind those that are written, within what is behind those, and within them
-put_end : (out xs old : List ℕ) {n : ℕ} → length out ≡ n → put n xs (out ++ drop n old) ≡ (out ++ xs) ++ drop (n + length xs) old
-unfolding put
-put_end out xs old {n} e =
-    rw (sym e, take-append_seam out (drop (length out) old), drop-append-add out (drop (length out) old) (length xs), drop-drop (length xs) (length out) old) refl
-
-put_behind : (out xs bytes : List ℕ) (at : ℕ) {n : ℕ} → length out ≡ n → put (n + at) xs (out ++ bytes) ≡ out ++ put at xs bytes
-unfolding put
-put_behind out xs bytes at {n} e =
-    let on : length out + at + length xs ≡ length out + (at + length xs) = omega arith in
-    rw (sym e, on, take-append-add out bytes at, drop-append-add out bytes (at + length xs)) (simp append_assoc)
-
-put_before : (out xs bytes : List ℕ) (at : ℕ) → at + length xs ≤ length out → put at xs (out ++ bytes) ≡ put at xs out ++ bytes
-unfolding put
-put_before out xs bytes at fits = grind (arith, common_steps)
-
--- bytes put within the record behind those that are written, with its length field between
-put_in_record : (out head bytes xs : List ℕ) (at : ℕ) {n : ℕ} → length out ≡ n → length head ≡ 2 → put (n + 2 + at) xs (out ++ (head ++ bytes)) ≡ out ++ (head ++ put at xs bytes)
-put_in_record out head bytes xs at {n} e h =
-    let long : length (out ++ head) ≡ n + 2 = length-append out head ∙ omega arith in
-    ap (put (n + 2 + at) xs) (sym (append_assoc out head bytes)) ∙ put_behind (out ++ head) xs bytes at long ∙ append_assoc out head (put at xs bytes)
-
-module _ (parent next : ℕ) (bytes : List ℕ) (room : 10 ≤ length bytes) where
-  -- a parent, and a next where there is one, put in a record
-  links_length : (n : Bool) → (n ≡ true → 14 ≤ length bytes) → length (cond n (put_u32 10 next (put_u32 2 parent bytes)) (put_u32 2 parent bytes)) ≡ length bytes
-  links_length true more = let room_2 : 14 ≤ length bytes = more refl in grind (arith, length_put)
-  links_length false more = grind (arith, length_put)
-
-  links_put : (out head rest : List ℕ) {m : ℕ} → length out ≡ m → length head ≡ 2 → (n : Bool) → (n ≡ true → 14 ≤ length bytes) →
-      cond n (put_u32 (m + 2 + 10) next (put_u32 (m + 2 + 2) parent ((out ++ (head ++ bytes)) ++ rest))) (put_u32 (m + 2 + 2) parent ((out ++ (head ++ bytes)) ++ rest))
-      ≡ (out ++ (head ++ cond n (put_u32 10 next (put_u32 2 parent bytes)) (put_u32 2 parent bytes))) ++ rest
-  links_put out head rest {m} e h = by
-    where
-      one : (x at : ℕ) (bs : List ℕ) → at + 4 ≤ length bs → put_u32 (m + 2 + at) x ((out ++ (head ++ bs)) ++ rest) ≡ (out ++ (head ++ put_u32 at x bs)) ++ rest
-      one x at bs fits =
-          let long : length (out ++ (head ++ bs)) ≡ m + 2 + length bs = length-append out (head ++ bs) ∙ omega (arith, length-append head bs) in
-          put_before (out ++ (head ++ bs)) (to_le_bytes w32 x) rest (m + 2 + at) (omega arith) ∙ ap (λ l. l ++ rest) (put_in_record out head bs (to_le_bytes w32 x) at e h)
-
-      by : (n : Bool) → (n ≡ true → 14 ≤ length bytes) →
-          cond n (put_u32 (m + 2 + 10) next (put_u32 (m + 2 + 2) parent ((out ++ (head ++ bytes)) ++ rest))) (put_u32 (m + 2 + 2) parent ((out ++ (head ++ bytes)) ++ rest))
-          ≡ (out ++ (head ++ cond n (put_u32 10 next (put_u32 2 parent bytes)) (put_u32 2 parent bytes))) ++ rest
-      by true more =
-          let long = length_put 2 (to_le_bytes w32 parent) bytes (omega arith) in
-          ap (put_u32 (m + 2 + 10) next) (one parent 2 bytes (omega arith)) ∙ one next 10 (put_u32 2 parent bytes) (omega (arith, more refl))
-      by false more = one parent 2 bytes (omega arith)
 
 -- what is written, with the ends of these openers put in, which are not written yet
 unfoldable pub patched : (ℕ → Option ℕ) → List Open → List ℕ → List ℕ
@@ -269,7 +223,7 @@ module _ {s : List ℕ} {first : ℕ} {old buffer openers : List ℕ} {here know
     copied : put here.to frame buffer ≡ (g.out ++ (head ++ bytes_at s it)) ++ drop (here.to + 2 + it.len) old
     copied =
         let end : here.to + length frame ≡ here.to + 2 + it.len = omega (arith, frame_length) in
-        ap (put here.to frame) g.written ∙ put_end g.out frame old g.long ∙ (λ i. (g.out ++ frame_is i) ++ drop (end i) old)
+        ap (put here.to frame) g.written ∙ put_at_end g.out frame old g.long ∙ (λ i. (g.out ++ frame_is i) ++ drop (end i) old)
 
     abbrev behind : Landing
     behind = record { at = it.next; to = here.to + 2 + it.len }
@@ -342,7 +296,7 @@ module _ {s : List ℕ} {first : ℕ} {old buffer openers : List ℕ} {here know
       pub inner_within : innermost (reverse openers) + 2 + 10 ≤ here.to
       inner_within = rw inner_place (rw closed.is at g.below).0
 
-      pub end_fits : innermost (reverse openers) + 2 + 6 + 4 ≤ length old
+      pub end_fits : innermost (reverse openers) + 2 + 10 ≤ length old
       end_fits = omega (arith, inner_within, fits)
 
       -- the end of the opener is here
@@ -403,7 +357,7 @@ module _ {s : List ℕ} {first : ℕ} {old buffer openers : List ℕ} {here know
 
       -- the links of the record, moved, but for its end
       abbrev half : List ℕ
-      half = with_parent_and_next (moved_links (landing_at s first) opened.links) (bytes_at s it)
+      half = put_parent_and_next (raw_kind (bytes_at s it)) 0 (moved_link (landing_at s first) opened.links.parent) (moved_link (landing_at s first) opened.links.next) (bytes_at s it)
 
       abbrev parent : ℕ
       parent = innermost (reverse openers)

@@ -4,26 +4,23 @@
 pub mod landing;
 
 ghost use Rattle.std.specs.Prelude.{◌≡◌, ◌≤◌, ◌<◌, ◌+◌, true, ◌||◌, eqb, is_some, List, [], reverse, length, take, IfOk};
-ghost use Rattle.common.specs.Bytes.{put, put_u32};
+ghost use Rattle.common.specs.Bytes.{put};
 ghost use Rattle.constants.specs.Raw.{raw_kind};
 ghost use Rattle.iter.specs.Reading.{read_of};
-ghost use Rattle.links.specs.Links.{has_next};
 ghost use Rattle.check_nesting.specs.Nesting.{Nests};
 ghost use Rattle.squeezing.specs.Squeeze.{moved_link, record_links, next_by, squeezed, squeeze_of, buffer_by};
 ghost use Rattle.squeezing.specs.Squeezes.{Squeezes};
 ghost use Rattle.squeezing.specs.Landing.{Lands, landing_at};
 ghost use Rattle.squeezing.specs.Plan.{plan_of, Readable, AllReadable};
-ghost use Rattle.squeezing.specs.Write.{squeezed_at, put_parent_and_next, innermost};
+ghost use Rattle.squeezing.specs.Write.{squeezed_at, innermost};
 
 use arrayvec::ArrayVec;
 use chain::MAX_DEPTH;
 use common::Refusal;
-use common::number::Number;
-use common::put::{put, put_u32};
+use common::put::put;
 use constants::Role;
 use iter::{Next, Record};
 use landing::{Landing, first_index, landing_of};
-use links::{END_AT, NEXT_AT, PARENT_AT};
 
 /// The next of a record, whose bytes are lent with it, 0 where it has none.
 fn next_of(r: Record, rec: &[u8]) -> usize
@@ -32,13 +29,7 @@ fn next_of(r: Record, rec: &[u8]) -> usize
     ensures { result ≡ next_by (record_links rec.now) }
 {
     match constants::nesting_role(r.kind) {
-        Role::Opens => {
-            if links::has_next(r.kind) {
-                u32::at(rec, NEXT_AT) as usize
-            } else {
-                0
-            }
-        }
+        Role::Opens => links::next_in(r.kind, rec) as usize,
         Role::Closes => 0,
         Role::Neither => 0,
     }
@@ -89,28 +80,6 @@ fn moved_link(s: &[u8], first: usize, known: &mut Landing, link: usize) -> usize
     landing_of(s, first, known, link).unwrap_or(0)
 }
 
-/// Puts a position in a link.
-fn put_link(buffer: &mut [u8], at: usize, position: usize)
-    requires within { at + 4 ≤ length buffer.old }
-    requires fits { position < 4294967296 }
-    ensures { buffer.new ≡ put_u32 at position buffer.old }
-{
-    put_u32(buffer, at, position as u32);
-}
-
-/// Puts the parent and the next in an opener of this kind, whose bytes stand from `at` on.
-fn put_parent_and_next(buffer: &mut [u8], kind: u16, at: usize, parent: usize, next: usize)
-    requires within { at + 10 ≤ length buffer.old }
-    requires next_within { has_next kind ≡ true → at + 14 ≤ length buffer.old }
-    requires fits { (parent < 4294967296) × (next < 4294967296) }
-    ensures { buffer.new ≡ put_parent_and_next kind at parent next buffer.old }
-{
-    put_link(buffer, at + PARENT_AT, parent);
-    if links::has_next(kind) {
-        put_link(buffer, at + NEXT_AT, next);
-    }
-}
-
 /// Where the innermost of the openers lands, which are listed with the innermost last; 0 where none is.
 fn innermost(openers: &[usize]) -> usize
     ensures { result ≡ innermost (reverse openers.now) }
@@ -144,11 +113,17 @@ fn write(s: &[u8], first: usize, buffer: &mut [u8])
                 match constants::nesting_role(r.kind) {
                     Role::Neither => {}
                     Role::Opens => {
-                        put_parent_and_next(buffer, r.kind, to + 2, innermost(&openers), next);
+                        links::put_parent_and_next(
+                            buffer,
+                            r.kind,
+                            to + 2,
+                            innermost(&openers),
+                            next,
+                        );
                         openers.push(to);
                     }
                     Role::Closes => {
-                        put_link(buffer, innermost(&openers) + 2 + END_AT, to);
+                        links::put_end(buffer, innermost(&openers) + 2, to);
                         openers.pop();
                     }
                 }

@@ -1,12 +1,13 @@
 -- `squeezing::write` meets its contract.
 use Rattle.std.proofs.Common.{◌≡◌, ◌+◌, reverse, rules, sym, subst, ap, ◌∙◌, arith, Ok}
 use Rattle.common.specs.Bytes.{put_u32}
-use Rattle.iter.proofs.Reading.{step_is}
+use Rattle.iter.proofs.Reading.{step_is, step_fits}
 use Rattle.iter.proofs.Steps.{record_of, lent_bytes}
 use Rattle.squeezing.specs.Squeeze.{moved_link, record_links, next_by}
 use Rattle.squeezing.specs.Landing.{landing_at}
 use Rattle.squeezing.specs.Plan.{Readable}
-use Rattle.squeezing.specs.Write.{put_parent_and_next, innermost}
+use Rattle.links.specs.Links.{put_parent_and_next}
+use Rattle.squeezing.specs.Write.{innermost}
 use Rattle.squeezing.proofs.Writes.{front_fits, writing_first, at_end, at_refused, readable_here, behind_fits, role_here, frame_fits, copied_length, place_fits, here_fits, neither, inner_within, end_fits, closes_turn, links_fit, next_fits, parent_fits, push_room, opens_turn}
 use Rattle.squeezing.proofs.write.Goals as goal
 
@@ -81,25 +82,21 @@ overflow_add-innermost c =
     let g = c.loop-r.invariant in
     omega (arith, c.innermost-in-Closes.ensures ∙ ap (λ l. innermost (reverse l)) c.deref-in-Closes.ensures.0, inner_within g it (role_here g it c.in-Closes.ensures), here_fits g it)
 
-pub overflow_add-innermost-in-Closes : goal.overflow_add-innermost-in-Closes
-overflow_add-innermost-in-Closes c =
-    let it = record_of _ _ c.in-Ok-Record.ensures c.in-Ok-Record.field-0-is in
-    let g = c.loop-r.invariant in
-    omega (arith, c.innermost-in-Closes.ensures ∙ ap (λ l. innermost (reverse l)) c.deref-in-Closes.ensures.0, inner_within g it (role_here g it c.in-Closes.ensures), here_fits g it)
-
-pub put_link-requires-clause-within : goal.put_link-requires-clause-within
-put_link-requires-clause-within c =
+pub put_end-requires-clause-within : goal.put_end-requires-clause-within
+put_end-requires-clause-within c =
     let it = record_of _ _ c.in-Ok-Record.ensures c.in-Ok-Record.field-0-is in
     let g = c.loop-r.invariant in
     rw (c.put-in-Ok-Record.ensures, copied_length g it, c.innermost-in-Closes.ensures ∙ ap (λ l. innermost (reverse l)) c.deref-in-Closes.ensures.0) (end_fits g it (role_here g it c.in-Closes.ensures))
 
-pub put_link-requires-clause-fits : goal.put_link-requires-clause-fits
-put_link-requires-clause-fits c = omega (arith, here_fits c.loop-r.invariant (record_of _ _ c.in-Ok-Record.ensures c.in-Ok-Record.field-0-is))
+pub put_end-requires-clause-fits : goal.put_end-requires-clause-fits
+put_end-requires-clause-fits c =
+    let it = record_of _ _ c.in-Ok-Record.ensures c.in-Ok-Record.field-0-is in
+    omega (arith, here_fits c.loop-r.invariant it, step_fits _ _ _ it)
 
 pub loop-r-preserved : goal.loop-r-preserved
 loop-r-preserved c =
     let it = record_of _ _ c.in-Ok-Record.ensures c.in-Ok-Record.field-0-is in
     let g = c.loop-r.invariant in
     let inner = c.innermost-in-Closes.ensures ∙ ap (λ l. innermost (reverse l)) c.deref-in-Closes.ensures.0 in
-    let written = c.put_link.ensures ∙ (λ i. put_u32 (inner i + 2 + 6) c.loop-r.here.to (c.put-in-Ok-Record.ensures i)) in
+    let written = c.put_end.ensures ∙ (λ i. put_u32 (inner i + 2 + 6) c.loop-r.here.to (c.put-in-Ok-Record.ensures i)) in
     rw c.behind-here.ensures (closes_turn g it (role_here g it c.in-Closes.ensures) written (search rules) c.moved_link-next.ensures.known)
