@@ -2,24 +2,10 @@
 // the program `squeeze` answers.
 #![tactic(auto)]
 
-ghost use Rattle.std.specs.Prelude.{◌≤◌, length, IfOk};
-
-use common::Refusal;
 use std::io::{self, Read};
 
 /// How many bytes a line shows: its offset is its number and one more hexadecimal digit.
 const LINE: usize = 16;
-
-/// Squeezes a stream as the program `squeeze` does.
-#[tactic(auto, unfolding(squeezing::specs::Squeeze::squeeze_of))]
-fn squeeze(s: &[u8], buffer: &mut [u8]) -> Result<usize, Refusal>
-    ensures { IfOk result (λ n. n ≤ length buffer.new) }
-{
-    if listing::MAX_LISTED < s.len() {
-        return Err(Refusal::TooLong);
-    }
-    squeezing::squeeze(s, 4, buffer)
-}
 
 /// Prints how many bytes there are, and then their lines but for those that are as the line before.
 fn print_bytes(rt: &HostRuntime, bytes: &[u8]) -> io::Result<()> {
@@ -52,7 +38,7 @@ fn squeeze_case<R: Read>(rt: &HostRuntime, reader: &mut R, number: u64) -> io::R
     let n = input::read_full(reader, &mut stream[..len])?;
     println!(rt; "case {number}")?;
     let mut buffer = [0u8; listing::MAX_LISTED];
-    match squeeze(&stream[..n], &mut buffer) {
+    match squeeze_listed::squeeze_listed(&stream[..n], &mut buffer) {
         Ok(n) => print_bytes(rt, &buffer[..n])?,
         Err(e) => println!(rt; "refused {} {}", e.number(), e.position())?,
     }

@@ -1,10 +1,10 @@
 -- Reading from the first record on gives what reading from the start gives, but for the fillers before it: the loops do what the squeeze is.
 -- Assumes nothing.
-use Rattle.std.proofs.Common.{ℕ, ◌+◌, ◌≤◌, ◌<◌, ◌≡◌, refl, sym, ap, ◌∙◌, subst, arith, List, [], ◌∷◌, ◌++◌, append-nil, length, length-append, length-drop, length-take-le, take, drop, Option, Result, Ok, Err}
+use Rattle.std.proofs.Common.{ℕ, ◌+◌, ◌≤◌, ◌<◌, ◌≡◌, refl, sym, ap, ◌∙◌, subst, arith, List, [], ◌∷◌, length, length-append, length-drop, length-take-le, take, drop, Option, Result, Ok, Err}
 use Rattle.std.specs.Prelude.{sum_by, IsSome}
 use Rattle.std.specs.Result.{result_and}
 use Rattle.std.proofs.lemmas.Grind.{common_steps}
-use Rattle.std.proofs.lemmas.List.{take_all, drop_all}
+use Rattle.std.proofs.lemmas.List.{drop_all}
 use Rattle.common.specs.declared.Refusal.{Refusal}
 use Rattle.common.specs.declared.Refusal.TheVariants.{NoRoom}
 use Rattle.iter.specs.Step.{scan_of}
@@ -19,10 +19,9 @@ use Rattle.check_nesting.specs.declared.Counts.{Counts}
 use Rattle.check_nesting.specs.Check.{size, check_of}
 use Rattle.check_nesting.specs.Nesting.{Nests, done, passes, opens, closes, NestsIn}
 use Rattle.check_nesting.proofs.Nesting.{good_nests}
-use Rattle.squeezing.specs.Squeeze.{lands_from, lands, row, nexts_of, fitting, squeezed_from, squeezed, squeeze_of}
-use Rattle.squeezing.specs.Landing.{first_in, first_of, landing_at}
+use Rattle.squeezing.specs.Squeeze.{lands_from, first_in, first_of, row, nexts_of, fitting, squeezed_from, squeezed, squeeze_of}
+use Rattle.squeezing.specs.Landing.{landing_at}
 use Rattle.squeezing.specs.Plan.{plan_of, AllReadable}
-use Rattle.squeezing.specs.Write.{squeezed_at}
 use Rattle.squeezing.proofs.Moved.{moved_length}
 
 -- a record, read from its own index
@@ -103,46 +102,42 @@ module _ (s : List ℕ) (start : ℕ) {c : Counts} (ok : check_of s start ≡ Ok
       by (no_record e f is) = omega arith
       by (a_record r rs e f is within) = within
 
+  -- the loops read the records that the squeeze is made of
+  same_rows : (P : List Rec → Type 0) → ((r : Rec) (rs : List Rec) → P (r ∷ rs) → P (bare r ∷ rs)) → P (read_of s start).recs → P (read_of s (first_of s start)).recs
+  same_rows P bares p = by first
+    where
+      by : First s start (first_of s start) → P (read_of s (first_of s start)).recs
+      by (no_record e f is) = subst P (sym f) (subst P e p)
+      by (a_record r rs e f is within) = subst P (sym f) (bares r rs (subst P e p))
+
+  squeezed_is : squeezed_from s (first_of s start) (read_of s (first_of s start)).recs ≡ squeezed s start
+  unfolding squeezed squeezed_from row lands_from
+  squeezed_is = same_rows (λ rs. squeezed_from s (first_of s start) rs ≡ squeezed s start) (λ r rs e. e) refl
+
+  nexts_are : nexts_of (landing_at s (first_of s start)) (read_of s (first_of s start)).recs ≡ nexts_of (lands_from (first_of s start) (read_of s start).recs) (read_of s start).recs
+  unfolding nexts_of lands_from
+  nexts_are =
+      same_rows (λ rs. nexts_of (lands_from (first_of s start) rs) rs ≡ nexts_of (lands_from (first_of s start) (read_of s start).recs) (read_of s start).recs) (λ r rs e. e) refl
+
   first_nests : Nests (read_of s (first_of s start)).recs []
-  first_nests = by first
-    where
-      by : First s start (first_of s start) → Nests (read_of s (first_of s start)).recs []
-      by (no_record e f is) = rw f done
-      by (a_record r rs e f is within) = rw f (nests_bare (subst (λ l. Nests l []) e nesting.nests))
+  first_nests = same_rows (λ rs. Nests rs []) (λ r rs n. nests_bare n) nesting.nests
 
-  squeezed_is : squeezed_at s (first_of s start) ≡ squeezed s start
-  unfolding squeezed_at squeezed squeezed_from lands row lands_from
-  squeezed_is = by first
-    where
-      by : First s start (first_of s start) → squeezed_at s (first_of s start) ≡ squeezed s start
-      by (no_record e f is) =
-          (λ j. take (is j) s ++ row s (λ i. lands_from (is j) (f j) i) (f j)) ∙ append-nil (take (length s) s) ∙ take_all (length s) s (omega arith) ∙ sym (ap (squeezed_from s) e)
-      by (a_record r rs e f is within) = (λ j. take (is j) s ++ row s (λ i. lands_from (is j) (f j) i) (f j)) ∙ sym (ap (squeezed_from s) e)
-
-  nexts_are : nexts_of (landing_at s (first_of s start)) (read_of s (first_of s start)).recs ≡ nexts_of (lands (read_of s start).recs) (read_of s start).recs
-  unfolding nexts_of lands lands_from
-  nexts_are = by first
-    where
-      by : First s start (first_of s start) → nexts_of (landing_at s (first_of s start)) (read_of s (first_of s start)).recs ≡ nexts_of (lands (read_of s start).recs) (read_of s start).recs
-      by (no_record e f is) = (λ j. nexts_of (λ i. lands_from (is j) (f j) i) (f j)) ∙ sym (ap (λ l. nexts_of (lands l) l) e)
-      by (a_record r rs e f is within) = (λ j. nexts_of (λ i. lands_from (is j) (f j) i) (f j)) ∙ sym (ap (λ l. nexts_of (lands l) l) e)
-
-  length_is : first_of s start + sum_by size (read_of s (first_of s start)).recs ≡ length (squeezed_at s (first_of s start))
-  unfolding squeezed_at
+  length_is : first_of s start + sum_by size (read_of s (first_of s start)).recs ≡ length (squeezed_from s (first_of s start) (read_of s (first_of s start)).recs)
+  unfolding squeezed_from
   length_is =
       let to = landing_at s (first_of s start) in
       let rs = (read_of s (first_of s start)).recs in
       omega (arith, length-append (take (first_of s start) s) (row s to rs), length-take-le (first_of s start) s first_within, row_length s to rs (wholes s (first_of s start)))
 
-  plan_is : plan_of s (first_of s start) ≡ result_and (nexts_of (lands (read_of s start).recs) (read_of s start).recs) (Ok (length (squeezed s start)))
+  plan_is : plan_of s (first_of s start) ≡ result_and (nexts_of (lands_from (first_of s start) (read_of s start).recs) (read_of s start).recs) (Ok (length (squeezed s start)))
   unfolding plan_of
   plan_is = let long = length_is ∙ ap length squeezed_is in λ i. result_and (nexts_are i) (Ok (long i))
 
   squeeze_is : (room : ℕ) → squeeze_of s start room ≡ on_plan (plan_of s (first_of s start)) room
   unfolding squeeze_of
   squeeze_is room =
-      ap (λ r. result_and r (result_and (nexts_of (lands (read_of s start).recs) (read_of s start).recs) (fitting (length (squeezed s start)) room))) ok
-      ∙ planned (nexts_of (lands (read_of s start).recs) (read_of s start).recs) (length (squeezed s start)) room
+      ap (λ r. result_and r (result_and (nexts_of (lands_from (first_of s start) (read_of s start).recs) (read_of s start).recs) (fitting (length (squeezed s start)) room))) ok
+      ∙ planned (nexts_of (lands_from (first_of s start) (read_of s start).recs) (read_of s start).recs) (length (squeezed s start)) room
       ∙ ap (λ p. on_plan p room) (sym plan_is)
 
   -- the same, as the calls say it, of the first record that was found
@@ -156,8 +151,8 @@ module _ (s : List ℕ) (start : ℕ) {c : Counts} (ok : check_of s start ≡ Ok
     pub readable : AllReadable (read_of s at).recs
     readable = all_readable nests
 
-    pub written : squeezed_at s at ≡ squeezed s start
-    written = ap (squeezed_at s) f ∙ squeezed_is
+    pub written : squeezed_from s at (read_of s at).recs ≡ squeezed s start
+    written = ap (λ n. squeezed_from s n (read_of s n).recs) f ∙ squeezed_is
 
     pub plan_refused : (room : ℕ) {e : Refusal} → Err e ≡ plan_of s at → Err e ≡ squeeze_of s start room
     plan_refused room p = ap (λ r. on_plan r room) (p ∙ ap (plan_of s) f) ∙ sym (squeeze_is room)
@@ -172,8 +167,8 @@ module _ (s : List ℕ) (start : ℕ) {c : Counts} (ok : check_of s start ≡ Ok
       pub fits : {room : ℕ} → n ≤ room → Ok n ≡ squeeze_of s start room
       fits {room} l = grind (arith, common_steps, plan_fits room)
 
-      pub plan_length : n ≡ length (squeezed_at s at)
-      plan_length = by (nexts_of (lands (read_of s start).recs) (read_of s start).recs) (p ∙ ap (plan_of s) f ∙ plan_is) ∙ sym (ap length written)
+      pub plan_length : n ≡ length (squeezed_from s at (read_of s at).recs)
+      plan_length = by (nexts_of (lands_from (first_of s start) (read_of s start).recs) (read_of s start).recs) (p ∙ ap (plan_of s) f ∙ plan_is) ∙ sym (ap length written)
         where
           by : (nexts : Result Unit Refusal) → Ok n ≡ result_and nexts (Ok (length (squeezed s start))) → n ≡ length (squeezed s start)
           by (Ok u) q = cc

@@ -14,8 +14,8 @@ use Rattle.iter.specs.declared.Next.TheVariants as N
 use Rattle.iter.proofs.Reading.{step_fits, again, read_by}
 use Rattle.iter.proofs.Rows.{Wholes}
 use Rattle.iter.proofs.Records.{read-ind, Rising, rising, bytes-length}
-use Rattle.squeezing.specs.Squeeze.{lands_from}
-use Rattle.squeezing.specs.Landing.{Lands, landing_at, first_of}
+use Rattle.squeezing.specs.Squeeze.{lands_from, first_of}
+use Rattle.squeezing.specs.Landing.{Lands, landing_at}
 use Rattle.squeezing.specs.declared.landing.Landing.{Landing}
 
 -- no record of a list that rises begins before it

@@ -13,7 +13,7 @@ use Rattle.iter.proofs.Records.{le_part, bytes-length, Rising, rising}
 use Rattle.iter.proofs.Rows.{Whole, Wholes, wholes, Piece, Sound, Sounds, laid, to_end, read_kept}
 use Rattle.iter.proofs.Rows as R
 use Rattle.check_nesting.specs.Check.{size}
-use Rattle.squeezing.specs.Squeeze.{lands, moved_link, moved, row, squeezed_from, squeezed}
+use Rattle.squeezing.specs.Squeeze.{lands_from, first_in, first_of, moved_link, moved, row, squeezed_from, squeezed}
 use Rattle.squeezing.specs.Squeezes.{NoFillers}
 use Rattle.squeezing.proofs.Landings.{lands_within}
 use Rattle.squeezing.proofs.Moved.{moved_length, moved_number}
@@ -76,22 +76,22 @@ pub record Reads (s : List ℕ) (start : ℕ) (t : List ℕ) : Type 0 where
   pub others : List Rec
   pub records : (read_of s start).recs ≡ r ∷ rs
   pub read : read_of t start ≡ to_end (first ∷ others)
-  pub landed : Landed (lands (r ∷ rs)) r.index (r ∷ rs) (first ∷ others)
+  pub landed : Landed (lands_from r.index (r ∷ rs)) r.index (r ∷ rs) (first ∷ others)
   pub no_fillers : NoFillers others
-  pub small : (x : ℕ) → moved_link (lands (r ∷ rs)) x < 2 ^ 32
+  pub small : (x : ℕ) → moved_link (lands_from r.index (r ∷ rs)) x < 2 ^ 32
   pub before : take start t ≡ take start s
 
 pub squeezed_reads : (s : List ℕ) (start : ℕ) {it : Record} → (scan_of s start).step ≡ Ok (N.Record it) → Reads s start (squeezed s start)
-unfolding squeezed squeezed_from lands
+unfolding squeezed squeezed_from first_of
 squeezed_reads s start {it} e =
     let r = rec_at s (scan_of s start) it in
     let rs = (read_of s it.next).recs in
-    let to = lands (r ∷ rs) in
+    let to = lands_from r.index (r ∷ rs) in
     let y = step_fits s start it e in
     let records : (read_of s start).recs ≡ r ∷ rs = ap (λ (x : Reading). x.recs) (read_by s start (Ok (N.Record it)) e) in
     let w : Wholes s (r ∷ rs) = subst (Wholes s) records (wholes s start) in
     let ri : Rising it.index (r ∷ rs) = (omega arith, (subst (Rising start) records (rising s start)).1) in
-    let is : squeezed s start ≡ take it.index s ++ R.row (pieces s to (r ∷ rs)) = ap (squeezed_from s) records ∙ rw (row_is s to (r ∷ rs)) in
+    let is : squeezed s start ≡ take it.index s ++ R.row (pieces s to (r ∷ rs)) = (λ i. squeezed_from s (first_in s (records i)) (records i)) ∙ rw (row_is s to (r ∷ rs)) in
     let front : length (take it.index s) ≡ it.index = length-take-le it.index s (omega arith) in
     let long : length (squeezed s start) ≤ length s = rw (is, length-append, front) (row_within s to (r ∷ rs) it.index (omega arith) ri w) in
     record {

@@ -1,6 +1,6 @@
 -- Squeezing leaves a stream that passes the check, with the same records but for moved links, and no filler behind the first.
 -- Assumes nothing.
-use Rattle.std.proofs.Common.{ℕ, ◌+◌, ◌≡◌, refl, sym, ap, ◌∙◌, arith, List, [], ◌∷◌, ◌++◌, length, take, drop, take_at, Result, Ok, Err}
+use Rattle.std.proofs.Common.{ℕ, ◌+◌, ◌≡◌, refl, sym, ap, ◌∙◌, arith, List, [], ◌∷◌, ◌++◌, append-nil, length, take, drop, take_at, take_all, Result, Ok, Err}
 use Rattle.std.specs.Prelude.{IfOk}
 use Rattle.std.specs.Result.{result_and}
 use Rattle.std.proofs.lemmas.Grind.{common_steps}
@@ -17,16 +17,17 @@ use Rattle.check_nesting.specs.declared.Counts.{Counts}
 use Rattle.check_nesting.specs.Nesting.{Nests}
 use Rattle.check_nesting.proofs.Nesting.{good_nests, nests_good}
 use Rattle.check_nesting.proofs.Moving.{each_named, nests_moved}
-use Rattle.squeezing.specs.Squeeze.{lands, moved_link, squeezed_from, squeezed, nexts_of, fitting, squeeze_of, buffer_by}
+use Rattle.squeezing.specs.Squeeze.{lands_from, first_in, first_of, row, moved_link, squeezed_from, squeezed, nexts_of, fitting, squeeze_of, buffer_by}
 use Rattle.squeezing.specs.Squeezes.{Squeezes}
 use Rattle.squeezing.proofs.Squeezed.{Reads, squeezed_reads}
 use Rattle.squeezing.proofs.Kept.{IsNamed, same_record, each_moves, each_kept}
 
 -- a stream that yields no record is copied whole
 copied_squeezes : (s : List ℕ) (start : ℕ) {n : Counts} → check_of s start ≡ Ok n → (read_of s start).recs ≡ [] → Squeezes s start (squeezed s start)
-unfolding squeezed squeezed_from
+unfolding squeezed squeezed_from first_of row
 copied_squeezes s start ok none =
-    rw none
+    let whole : squeezed s start ≡ s = (λ i. squeezed_from s (first_in s (none i)) (none i)) ∙ append-nil (take (length s) s) ∙ take_all (length s) s (omega arith) in
+    rw whole
     (record {
       passes = rw ok;
       records = rw none tt;
@@ -35,10 +36,10 @@ copied_squeezes s start ok none =
     })
 
 reads_squeezes : (s : List ℕ) (start : ℕ) {n : Counts} (t : List ℕ) → check_of s start ≡ Ok n →
-    nexts_of (lands (read_of s start).recs) (read_of s start).recs ≡ Ok tt → Reads s start t → Squeezes s start t
-unfolding lands
+    nexts_of (lands_from (first_of s start) (read_of s start).recs) (read_of s start).recs ≡ Ok tt → Reads s start t → Squeezes s start t
+unfolding first_of
 reads_squeezes s start t ok nexts q =
-    let to = lands (q.r ∷ q.rs) in
+    let to = lands_from q.r.index (q.r ∷ q.rs) in
     let nest : Nests (q.r ∷ q.rs) [] = rw q.records at (good_nests s start ok).nests in
     let ri : Rising start (q.r ∷ q.rs) = rw q.records at (rising s start) in
     let m = each_moves to q.small start q.landed ri (λ x l. refl) in
@@ -52,7 +53,7 @@ reads_squeezes s start t ok nexts q =
     }
 
 pub squeezed_squeezes : (s : List ℕ) (start : ℕ) {n : Counts} → check_of s start ≡ Ok n →
-    nexts_of (lands (read_of s start).recs) (read_of s start).recs ≡ Ok tt → Squeezes s start (squeezed s start)
+    nexts_of (lands_from (first_of s start) (read_of s start).recs) (read_of s start).recs ≡ Ok tt → Squeezes s start (squeezed s start)
 squeezed_squeezes s start ok nexts = by (scan_of s start).step refl
   where
     by : (n : Result Next Refusal) → (scan_of s start).step ≡ n → Squeezes s start (squeezed s start)
@@ -68,9 +69,9 @@ call_squeezes s start buffer b (Err x) e is = tt
 call_squeezes s start buffer b (Ok n) e is = by (check_of s start) refl e
   where
     by : (c : Result Counts Refusal) → check_of s start ≡ c →
-        Ok n ≡ result_and c (result_and (nexts_of (lands (read_of s start).recs) (read_of s start).recs) (fitting (length (squeezed s start)) (length buffer))) → Squeezes s start (take n b)
+        Ok n ≡ result_and c (result_and (nexts_of (lands_from (first_of s start) (read_of s start).recs) (read_of s start).recs) (fitting (length (squeezed s start)) (length buffer))) → Squeezes s start (take n b)
     by (Ok c) ok l =
-        let k : (nexts_of (lands (read_of s start).recs) (read_of s start).recs ≡ Ok tt) × (length (squeezed s start) ≡ n) = grind (arith, common_steps, l) in
+        let k : (nexts_of (lands_from (first_of s start) (read_of s start).recs) (read_of s start).recs ≡ Ok tt) × (length (squeezed s start) ≡ n) = grind (arith, common_steps, l) in
         let b_is : b ≡ squeezed s start ++ drop (0 + length (squeezed s start)) buffer = is ∙ ap (λ x. buffer_by x (squeezed s start) buffer) (sym e) in
         rw (b_is, take_at (squeezed s start) (drop (0 + length (squeezed s start)) buffer) n k.1) (squeezed_squeezes s start ok k.0)
     by (Err x) ok l = cc

@@ -1,9 +1,9 @@
 -- Laws of the writing loop: what is written is the squeezed stream, but for the ends of the openers that are not closed yet.
 -- Assumes nothing.
-use Rattle.std.proofs.Common.{ℕ, ◌+◌, ◌-◌, ◌≤◌, ◌<◌, ◌≡◌, refl, sym, ap, ◌∙◌, subst, arith, List, [], ◌∷◌, ◌++◌, append_assoc, append-nil, map, reverse, length, length-append, length-take-le, length-drop, take, drop, Option, Some, Ok, Err, Bool, true, false, cond, ne_eqb}
+use Rattle.std.proofs.Common.{ℕ, ◌+◌, ◌-◌, ◌≤◌, ◌<◌, ◌≡◌, refl, sym, ap, ◌∙◌, subst, arith, List, [], ◌∷◌, ◌++◌, append_assoc, append-nil, map, reverse, length, length-append, length-take-le, length-drop, take, drop, Option, Some, Ok, Err, true, ne_eqb}
 use Rattle.std.specs.Prelude.{IsSome}
 use mathlib.Core.List.{tail}
-use lib.Seq.{take-add, take-append_seam, take-append-add, drop-append-add, drop-drop}
+use lib.Seq.{take-add, drop-drop}
 use Rattle.std.proofs.lemmas.List.{length-reverse, length-map, reverse-append}
 use Rattle.std.proofs.lemmas.Grind.{common_steps}
 use Rattle.std.specs.Int.{w32, to_le_bytes}
@@ -29,10 +29,10 @@ use Rattle.check_nesting.proofs.Checks.{popped}
 use Rattle.check_nesting.specs.Stack.{open_scope, inner_index}
 use Rattle.check_nesting.specs.Nesting.{Nests, done, passes, opens, closes}
 use Rattle.squeezing.specs.declared.landing.Landing.{Landing}
-use Rattle.squeezing.specs.Squeeze.{moved_link, moved_links, record_links, next_by, moved, row}
+use Rattle.squeezing.specs.Squeeze.{moved_link, record_links, next_by, moved, row, squeezed_from}
 use Rattle.squeezing.specs.Landing.{landing_at, Lands}
 use Rattle.squeezing.specs.Plan.{Readable}
-use Rattle.squeezing.specs.Write.{squeezed_at, innermost}
+use Rattle.squeezing.specs.Write.{innermost}
 use Rattle.squeezing.proofs.Moved.{record_links_is, moved_is, moved_length, moved_opener}
 use Rattle.squeezing.proofs.Landings.{lands_here, lands_behind, first_lands, lands_within}
 
@@ -79,18 +79,18 @@ pub record Writing (s : List ℕ) (first : ℕ) (old buffer openers : List ℕ) 
   pub below : Below (landing_at s first) here.to st
   pub long : length out ≡ here.to
   pub written : buffer ≡ out ++ drop here.to old
-  pub left : patched (landing_at s first) st out ++ row s (landing_at s first) (read_of s here.at).recs ≡ squeezed_at s first
-  pub room : length (squeezed_at s first) ≤ length old
+  pub left : patched (landing_at s first) st out ++ row s (landing_at s first) (read_of s here.at).recs ≡ squeezed_from s first (read_of s first).recs
+  pub room : length (squeezed_from s first (read_of s first).recs) ≤ length old
   pub inside : first ≤ length s
 
-pub front_fits : (s : List ℕ) (first : ℕ) {n : ℕ} → first ≤ length s → length (squeezed_at s first) ≤ n → 0 + length (take first s) ≤ n
-unfolding squeezed_at
+pub front_fits : (s : List ℕ) (first : ℕ) {n : ℕ} → first ≤ length s → length (squeezed_from s first (read_of s first).recs) ≤ n → 0 + length (take first s) ≤ n
+unfolding squeezed_from
 front_fits s first within room =
     omega (arith, length-append (take first s) (row s (landing_at s first) (read_of s first).recs))
 
-pub writing_first : (s : List ℕ) (first : ℕ) (old : List ℕ) → first ≤ length s → Nests (read_of s first).recs [] → length (squeezed_at s first) ≤ length old →
+pub writing_first : (s : List ℕ) (first : ℕ) (old : List ℕ) → first ≤ length s → Nests (read_of s first).recs [] → length (squeezed_from s first (read_of s first).recs) ≤ length old →
     Writing s first old (put 0 (take first s) old) [] (record { at = first; to = first }) (record { at = first; to = first })
-unfolding squeezed_at patched put
+unfolding squeezed_from patched put
 writing_first s first old within nests room =
     let long : length (take first s) ≡ first = length-take-le first s within in
     record {
@@ -149,18 +149,18 @@ all_closed done = refl
 
 module _ {s : List ℕ} {first : ℕ} {old buffer openers : List ℕ} {here known : Landing} (g : Writing s first old buffer openers here known) where
   -- nothing is left
-  ended : (read_of s here.at).recs ≡ [] → buffer ≡ put 0 (squeezed_at s first) old
+  ended : (read_of s here.at).recs ≡ [] → buffer ≡ put 0 (squeezed_from s first (read_of s first).recs) old
   unfolding patched put row
   ended none =
       let closed : g.st ≡ [] = all_closed (subst (λ rs. Nests rs g.st) none g.nests) in
-      let out : g.out ≡ squeezed_at s first = sym (append-nil g.out) ∙ (rw (none, closed) at g.left) in
-      let end : here.to ≡ 0 + length (squeezed_at s first) = omega (arith, ap length out, g.long) in
+      let out : g.out ≡ squeezed_from s first (read_of s first).recs = sym (append-nil g.out) ∙ (rw (none, closed) at g.left) in
+      let end : here.to ≡ 0 + length (squeezed_from s first (read_of s first).recs) = omega (arith, ap length out, g.long) in
       g.written ∙ (λ i. out i ++ drop (end i) old)
 
-  pub at_end : {p : ℕ} → (scan_of s here.at).step ≡ Ok (N.End p) → buffer ≡ put 0 (squeezed_at s first) old
+  pub at_end : {p : ℕ} → (scan_of s here.at).step ≡ Ok (N.End p) → buffer ≡ put 0 (squeezed_from s first (read_of s first).recs) old
   at_end {p} e = ended (ap (λ (r : Reading). r.recs) (read_by s here.at (Ok (N.End p)) e))
 
-  pub at_refused : {x : Refusal} → (scan_of s here.at).step ≡ Err x → buffer ≡ put 0 (squeezed_at s first) old
+  pub at_refused : {x : Refusal} → (scan_of s here.at).step ≡ Err x → buffer ≡ put 0 (squeezed_from s first (read_of s first).recs) old
   at_refused {x} e = ended (ap (λ (r : Reading). r.recs) (read_by s here.at (Err x) e))
 
   module _ {it : Record} (e : (scan_of s here.at).step ≡ Ok (N.Record it)) where
@@ -199,7 +199,7 @@ module _ {s : List ℕ} {first : ℕ} {old buffer openers : List ℕ} {here know
     frame_length = rw frame_is (omega (arith, length-append head (bytes_at s it), head_length, bytes-length s here.at it e))
 
     -- what is left, with the record written
-    left : patched (landing_at s first) g.st (g.out ++ (head ++ moved (landing_at s first) (bytes_at s it))) ++ row s (landing_at s first) (read_of s it.next).recs ≡ squeezed_at s first
+    left : patched (landing_at s first) g.st (g.out ++ (head ++ moved (landing_at s first) (bytes_at s it))) ++ row s (landing_at s first) (read_of s it.next).recs ≡ squeezed_from s first (read_of s first).recs
     unfolding row
     left =
         let to : ℕ → Option ℕ = landing_at s first in
@@ -231,7 +231,7 @@ module _ {s : List ℕ} {first : ℕ} {old buffer openers : List ℕ} {here know
     -- the invariant behind the record, with these openers open and this written
     next_turn : {bs os : List ℕ} {k : Landing} (st : List Open) (out : List ℕ) → Nests (read_of s it.next).recs st → Lands s first k →
         reverse os ≡ map (λ o. moved_link (landing_at s first) o.index) st → Below (landing_at s first) behind.to st → length out ≡ behind.to →
-        bs ≡ out ++ drop behind.to old → patched (landing_at s first) st out ++ row s (landing_at s first) (read_of s it.next).recs ≡ squeezed_at s first →
+        bs ≡ out ++ drop behind.to old → patched (landing_at s first) st out ++ row s (landing_at s first) (read_of s it.next).recs ≡ squeezed_from s first (read_of s first).recs →
         Writing s first old bs os behind k
     next_turn st out n k p b l w left =
         record {

@@ -17,11 +17,13 @@ unfoldable pub lands_from : ℕ → List Rec → ℕ → Option ℕ
 lands_from at [] i = None
 lands_from at (r ∷ rs) i = cond (eqb r.index i) (Some at) (lands_from (at + size r) rs i)
 
--- The fillers "before the first kept record" stay, and so it keeps its position.
-unfoldable pub lands : List Rec → ℕ → Option ℕ
-unfolding lands_from
-lands [] i = None
-lands (r ∷ rs) i = lands_from r.index (r ∷ rs) i
+-- What stays in front: all before the first record, the fillers there too. "A stream that yields no record is copied whole."
+abbrev pub first_in : List ℕ → List Rec → ℕ
+first_in s [] = length s
+first_in s (r ∷ rs) = r.index
+
+unfoldable pub first_of : List ℕ → ℕ → ℕ
+first_of s start = first_in s (read_of s start).recs
 
 -- "0 stays": a link, moved to where the record that it names lands
 abbrev pub moved_link : (ℕ → Option ℕ) → ℕ → ℕ
@@ -53,15 +55,12 @@ unfoldable pub row : List ℕ → (ℕ → Option ℕ) → List Rec → List ℕ
 row s to [] = []
 row s to (r ∷ rs) = take 2 (drop r.index s) ++ moved to r.bytes ++ row s to rs
 
--- "Bytes before the start are copied, and a stream that yields no record is copied whole."
-unfoldable pub squeezed_from : List ℕ → List Rec → List ℕ
-unfolding row
-squeezed_from s [] = s
-squeezed_from s (r ∷ rs) = take r.index s ++ row s (lands (r ∷ rs)) (r ∷ rs)
+-- the stream, squeezed: what stays in front, as many bytes as `first` says, and these records
+unfoldable pub squeezed_from : List ℕ → ℕ → List Rec → List ℕ
+squeezed_from s first rs = take first s ++ row s (lands_from first rs) rs
 
 unfoldable pub squeezed : List ℕ → ℕ → List ℕ
-unfolding squeezed_from
-squeezed s start = squeezed_from s (read_of s start).recs
+squeezed s start = squeezed_from s (first_of s start) (read_of s start).recs
 
 -- the next of a record, 0 where it has none
 abbrev pub next_by : Option Links → ℕ
@@ -81,10 +80,9 @@ fitting n room = cond (ltb room n) (Err NoRoom) (Ok n)
 
 -- "Checks: after the check's own, 17 .. then 18"; "the answer is the length written"
 unfoldable pub squeeze_of : List ℕ → ℕ → ℕ → Result ℕ Refusal
-unfolding nexts_of lands
 squeeze_of s start room =
     result_and (check_of s start)
-    (result_and (nexts_of (lands (read_of s start).recs) (read_of s start).recs)
+    (result_and (nexts_of (lands_from (first_of s start) (read_of s start).recs) (read_of s start).recs)
     (fitting (length (squeezed s start)) room))
 
 -- "Bytes beyond it, or all after a refusal, keep their values": what the buffer holds after the call

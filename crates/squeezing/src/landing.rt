@@ -3,12 +3,12 @@
 
 ghost use Rattle.std.specs.Prelude.{◌≡◌, ◌≤◌, ◌+◌};
 ghost use Rattle.iter.specs.Reading.{read_of};
-ghost use Rattle.squeezing.specs.Squeeze.{lands_from};
-ghost use Rattle.squeezing.specs.Landing.{Lands, landing_at, first_of};
+ghost use Rattle.squeezing.specs.Squeeze.{lands_from, first_of};
+ghost use Rattle.squeezing.specs.Landing.{Lands, landing_at};
 
 use iter::{Next, Record};
 
-/// The records that steps yield from a position on, and where the first of them lands; the others land behind it.
+/// A position to read on from, and where the record that is read next lands.
 #[derive(Clone, Copy, Debug, PartialEq, Eq)]
 pub struct Landing {
     /// The position in the stream.

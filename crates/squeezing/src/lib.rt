@@ -1,4 +1,5 @@
-// Squeezing out filler: a stream written anew without the records that steps pass over, save those before the first record kept.
+// Squeezing out filler: a stream written anew without its fillers, save those before the first record. Loops go by position, as all over
+// steps do: a record is more than the bytes that an Iterator would lend.
 #![tactic(auto)]
 
 pub mod landing;
@@ -8,11 +9,11 @@ ghost use Rattle.common.specs.Bytes.{put};
 ghost use Rattle.constants.specs.Raw.{raw_kind};
 ghost use Rattle.iter.specs.Reading.{read_of};
 ghost use Rattle.check_nesting.specs.Nesting.{Nests};
-ghost use Rattle.squeezing.specs.Squeeze.{moved_link, record_links, next_by, squeezed, squeeze_of, buffer_by};
+ghost use Rattle.squeezing.specs.Squeeze.{moved_link, record_links, next_by, squeezed_from, squeezed, squeeze_of, buffer_by};
 ghost use Rattle.squeezing.specs.Squeezes.{Squeezes};
 ghost use Rattle.squeezing.specs.Landing.{Lands, landing_at};
 ghost use Rattle.squeezing.specs.Plan.{plan_of, Readable, AllReadable};
-ghost use Rattle.squeezing.specs.Write.{squeezed_at, innermost};
+ghost use Rattle.squeezing.specs.Write.{innermost};
 
 use arrayvec::ArrayVec;
 use chain::MAX_DEPTH;
@@ -52,7 +53,6 @@ fn plan(s: &[u8], first: usize) -> Result<usize, Refusal>
 {
     let mut here = Landing::first(first);
     let mut known = here;
-    // By position: a step's record is found where it lies.
     loop {
         match iter::step(s, here.at) {
             Err(_) => return Ok(here.to),
@@ -92,14 +92,13 @@ fn innermost(openers: &[usize]) -> usize
 fn write(s: &[u8], first: usize, buffer: &mut [u8])
     requires within { first ≤ length s.now }
     requires nests { Nests (read_of s.now first).recs [] }
-    requires room { length (squeezed_at s.now first) ≤ length buffer.old }
-    ensures { buffer.new ≡ put 0 (squeezed_at s.now first) buffer.old }
+    requires room { length (squeezed_from s.now first (read_of s.now first).recs) ≤ length buffer.old }
+    ensures { buffer.new ≡ put 0 (squeezed_from s.now first (read_of s.now first).recs) buffer.old }
 {
     put(buffer, 0, &s[..first]);
     let mut openers: ArrayVec<usize, MAX_DEPTH> = ArrayVec::new();
     let mut here = Landing::first(first);
     let mut known = here;
-    // By position: a step's record is found where it lies.
     loop {
         match iter::step(s, here.at) {
             Err(_) => return,
