@@ -1,6 +1,7 @@
 /*
  * Puts a filler behind each record of a stream whose records start at a position, as incremental links do, and moves the links with the
- * records. From the same position squeeze.c makes the stream again that there was.
+ * records. A stream that passes the check, whose nexts name records and that has no filler behind its first record comes back from
+ * squeeze.c.
  *
  *     fill FILE POSITION >FILLED
  */

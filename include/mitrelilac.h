@@ -33,8 +33,8 @@
  *   writes two words: out[0] is the position of the refusal, out[1] its detail, each 0 where the number says nothing of it.
  *   Every other word of `out` stays as it was.
  * - The bytes may come from anywhere and hold anything: each call ends, with the answer or the refusal that is described here.
- * - It only reads the lent bytes, writes nothing but the words just named (mitrelilac_squeeze a stream to a buffer, too), keeps no
- *   pointer, allocates nothing, and has no state: any number of threads may call.
+ * - It only reads the lent bytes, writes nothing but the words just named and, in mitrelilac_squeeze, the buffer, keeps no pointer,
+ *   allocates nothing, and has no state: any number of threads may call.
  * - The caller lends `length` bytes that do not change during the call, and as many words as the function's `out` has, at an
  *   address of a uint64_t and apart from the bytes; to mitrelilac_squeeze also a buffer of `room` bytes, apart from both. A pointer is
  *   never null. Where there are no bytes, pass any address that is not null, "" for one, with the length 0.
@@ -59,7 +59,7 @@ extern "C" {
 
 /*
  * What a call returns. The position (out[0]) and the detail (out[1]) are 0 but where a line here or at the function says more. The
- * squeeze begins with the check, and refuses with its numbers alike.
+ * squeeze checks first, and refuses as the check does.
  */
 enum mitrelilac_number {
     MITRELILAC_ANSWERED = 0,
@@ -205,8 +205,8 @@ uint32_t mitrelilac_climb(const uint8_t *stream, size_t length, size_t i, uint64
  * The squeeze: writes the stream into a buffer, without the fillers, of which incremental links leave many. The first record from
  * `start` on keeps its position, and what lies before it is copied, fillers too, so that no opener gets to 0. Behind it each record
  * begins where the one before it ends, and with the last one the squeezed stream ends. Records are copied but for the links of
- * openers, which name the new positions: parent and end, and of procedures and thunks next; 0 stays. A stream with no record from
- * `start` on, which may be past the end, is copied whole.
+ * openers, which name the new positions: parent and end, and of procedures and thunks next; 0 stays. `start` may be past the end. A
+ * stream with no record from there on is copied whole.
  *
  *     out[0]  the length of the squeezed stream, never above `length`
  *
@@ -216,13 +216,13 @@ uint32_t mitrelilac_climb(const uint8_t *stream, size_t length, size_t i, uint64
  * From the same start the squeezed stream passes mitrelilac_check, and steps yield the same records in order, but for their moved
  * links, and pass over no filler behind the first one. This is proved (crates/squeezing/specs/Squeezes.antt).
  *
- * Refuses what mitrelilac_check refuses, and alike; and after that
+ * It checks first, and refuses as mitrelilac_check does. After that
  *     17  a procedure's or a thunk's next is not 0, and no record from `start` on has that index: the opener's index; of several
  *         the first in the stream
  *     18  the squeezed stream is longer than `room`: 0
  *
- * A call reads the stream a few times, and once or twice more for each next that names an earlier record than the next before it: on
- * a stream that was made to have many of these it takes long.
+ * A call reads the stream a few times, and up to twice more for each next that names an earlier record than the next before it. Linkers
+ * write none; docs/PERFORMANCE.md has what many of them cost.
  */
 uint32_t mitrelilac_squeeze(const uint8_t *stream, size_t length, size_t start, uint8_t *buffer, size_t room, uint64_t out[MITRELILAC_WORDS(2)]);
 
