@@ -1,11 +1,11 @@
--- The proved examples of document 01, line by line. Each holds by computing the definitions.
+-- The proved examples of document 01, line by line, and stream A squeezed. Each holds by computing the definitions.
 use Rattle.std.specs.Prelude.{ℕ, ◌≡◌, refl, false, List, [], ◌∷◌, negsuc, replicate, Result, Ok, Err}
 use Rattle.std.proofs.Common.{ap, ◌∙◌, inl, inr, arith}
 use Rattle.std.specs.Borrow.{Bor}
 use Rattle.common.specs.declared.Refusal.{Refusal}
 use Rattle.common.specs.Refused.{told_of, told}
 use Rattle.common.specs.Reader.{number}
-use Rattle.common.specs.Bytes.{le, signed}
+use Rattle.common.specs.Bytes.{le, signed, put}
 use Rattle.names.specs.declared.Part.{Part}
 use Rattle.names.specs.Name.{symbol_name, cstring, bytes, run, bytes_of}
 use Rattle.variant.specs.declared.Variant.TheVariants.{I16, U8}
@@ -19,7 +19,7 @@ use Rattle.symbol.specs.Bytes.{IsName}
 use Rattle.iter.specs.Step.{step_of, scan_of, scan_from, frame_at}
 use Rattle.iter.specs.declared.Next.TheVariants.{End}
 use Rattle.iter.specs.Reading.{read_of, read_from, Begins}
-use Rattle.links.specs.Links.{links_of}
+use Rattle.links.specs.Links.{links_of, with_links, has_next}
 use Rattle.chain.specs.Chain.{places}
 use Rattle.chain.specs.declared.Found.{Found}
 use Rattle.check_nesting.specs.Check.{check_of, verdict_from, verdict_on, counts_of, deepest_of}
@@ -29,6 +29,7 @@ use Rattle.jump.specs.Jump.{jump_of, jump_from, jump_by, jump_body}
 use Rattle.jump.specs.Hop.{hop_of, land_of}
 use Rattle.climb.specs.Climb.{climb_of, climb_on}
 use Rattle.climb.specs.Opener.{opener_of}
+use Rattle.squeezing.specs.Squeeze.{first_of, lands_from, record_links, moved, row, squeezed_from, squeezed, nexts_of, squeeze_of}
 use Rattle.agreement.specs.Agreement.{OpenerBegins}
 
 -- Stream A
@@ -195,3 +196,34 @@ p12 = refl
 p12_decode : Refuses (decode (0x07 ∷ 0x11 ∷ 0x00 ∷ 0x10 ∷ 0x00 ∷ 0x00 ∷ 0x05 ∷ 0x80 ∷ 0xFF ∷ 0xFF ∷ 0x6B ∷ 0x00 ∷ [])) 4 0 0x8005
 unfolding decoding
 p12_decode = refl
+
+-- Stream A squeezed (document 02, M-103): its filler is gone, and the outer scope ends at 0x40 in place of 0x44.
+unfoldable squeezed_a : List ℕ
+squeezed_a =
+    0x04 ∷ 0x00 ∷ 0x00 ∷ 0x00 ∷
+    0x16 ∷ 0x00 ∷ 0x03 ∷ 0x11 ∷ 0x00 ∷ 0x00 ∷ 0x00 ∷ 0x00 ∷ 0x40 ∷ 0x00 ∷ 0x00 ∷ 0x00 ∷ 0x0A ∷ 0x00 ∷ 0x00 ∷ 0x00 ∷ 0x00 ∷ 0x10 ∷ 0x00 ∷ 0x00 ∷ 0x01 ∷ 0x00 ∷ 0x61 ∷ 0x00 ∷
+    0x16 ∷ 0x00 ∷ 0x03 ∷ 0x11 ∷ 0x04 ∷ 0x00 ∷ 0x00 ∷ 0x00 ∷ 0x3C ∷ 0x00 ∷ 0x00 ∷ 0x00 ∷ 0x04 ∷ 0x00 ∷ 0x00 ∷ 0x00 ∷ 0x02 ∷ 0x10 ∷ 0x00 ∷ 0x00 ∷ 0x01 ∷ 0x00 ∷ 0x62 ∷ 0x00 ∷
+    0x06 ∷ 0x00 ∷ 0x24 ∷ 0x11 ∷ 0x6E ∷ 0x73 ∷ 0x74 ∷ 0x00 ∷
+    0x02 ∷ 0x00 ∷ 0x06 ∷ 0x00 ∷
+    0x02 ∷ 0x00 ∷ 0x06 ∷ 0x00 ∷ []
+
+squeezing : Unit {0}
+unfolding scopes check_of verdict_from verdict_on act_of counts_of deepest_of first_of lands_from record_links moved with_links has_next put row squeezed_from squeezed nexts_of squeeze_of
+squeezing = tt
+
+squeezed_is : squeezed stream_a 4 ≡ squeezed_a
+unfolding squeezing squeezed_a
+squeezed_is = refl
+
+-- 68 bytes, where there is room for them; squeezed again it is the same
+squeeze_fits : squeeze_of stream_a 4 68 ≡ Ok 68
+unfolding squeezing
+squeeze_fits = refl
+
+squeeze_no_room : Refuses (squeeze_of stream_a 4 67) 18 0 0
+unfolding squeezing
+squeeze_no_room = refl
+
+squeezed_twice : squeezed squeezed_a 4 ≡ squeezed_a
+unfolding squeezing squeezed_a
+squeezed_twice = refl
