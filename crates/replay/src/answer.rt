@@ -75,7 +75,7 @@ pub fn answer(op: u64, arg: u64, start: u64, s: &[u8]) -> Words {
     let at = arg as usize;
     let from = start as usize;
     let mut buf = ParseBuffer { bytes: s, pos: at };
-    // One match, since the oracle tells operations by number.
+    // One match, since the oracle tells operations by number. (44, the squeeze, is asked by module squeeze.)
     match op {
         1 => told(buf.parse::<u8>().map(|x| [x as u64, buf.pos as u64])),
         2 => told(buf.parse::<u16>().map(|x| [x as u64, buf.pos as u64])),

@@ -7,7 +7,7 @@ use mitrelilac::mitrelilac_squeeze;
 /// The operation's number.
 pub const SQUEEZE: u64 = 44;
 
-/// The most bytes that are lent.
+/// The most bytes that are lent: a case that asks for more is a difference.
 const ROOM: usize = 65536;
 
 /// The most words of an answer.

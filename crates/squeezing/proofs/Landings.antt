@@ -48,6 +48,10 @@ module _ (s : List ℕ) (l : Landing) where
   lands_no_more (Ok (N.End p)) e never i = rw (read_by s l.at (Ok (N.End p)) e) refl
   lands_no_more (Ok (N.Record it)) e never i = absurd (never it refl)
 
+-- what stands no later than it stood does so behind the next record too
+pub behind_fits : (s : List ℕ) (here : Landing) → here.to ≤ here.at → {it : Record} → (scan_of s here.at).step ≡ Ok (N.Record it) → here.to + 2 + it.len ≤ it.next
+behind_fits s here low {it} e = omega (arith, low, step_fits s here.at it e)
+
 -- The loop's invariant: the record at i lands where reading on from here finds it.
 pub record Seeking (s : List ℕ) (from : Landing) (i : ℕ) (here : Landing) : Type 0 where
   pub low : here.to ≤ here.at
@@ -64,9 +68,6 @@ module _ {s : List ℕ} {from : Landing} {i : ℕ} {here : Landing} (g : Seeking
     left : cond (eqb it.index i) (Some here.to) (lands_from (here.to + 2 + it.len) (read_of s it.next).recs i) ≡ lands_from from.to (read_of s from.at).recs i
     left = sym (lands_by s here it e i) ∙ g.lands
 
-    pub behind_fits : here.to + 2 + it.len ≤ it.next
-    behind_fits = omega (arith, g.low, step_fits s here.at it e)
-
     pub at_found : it.index ≡ i → Some here.to ≡ lands_from from.to (read_of s from.at).recs i
     at_found q = grind (arith, common_steps, left)
 
@@ -74,7 +75,7 @@ module _ {s : List ℕ} {from : Landing} {i : ℕ} {here : Landing} (g : Seeking
     at_past q = grind (arith, common_steps, left, lands_before (read_of s it.next).recs it.next (here.to + 2 + it.len) i (rising s it.next) (omega (arith, step_fits s here.at it e)))
 
     pub goes_on : ¬ (it.index ≡ i) → Seeking s from i (record { at = it.next; to = here.to + 2 + it.len })
-    goes_on n = record { low = behind_fits; lands = grind (arith, common_steps, left) }
+    goes_on n = record { low = behind_fits s here g.low e; lands = grind (arith, common_steps, left) }
 
 -- the first record keeps its position
 pub first_lands : (s : List ℕ) (first : ℕ) → Lands s first (record { at = first; to = first })

@@ -1,6 +1,6 @@
 -- Laws of the planning loop.
 -- Assumes nothing.
-use Rattle.std.proofs.Common.{cond, ℕ, ◌+◌, ◌≤◌, ◌≡◌, refl, sym, ap, ◌∙◌, arith, List, ◌∷◌, length, true, false, Option, None, Some, eqb, is_some, ◌||◌, Result, Ok, Err}
+use Rattle.std.proofs.Common.{cond, ℕ, ◌+◌, ◌≤◌, ◌≡◌, refl, sym, ap, ◌∙◌, arith, List, [], ◌∷◌, length, true, false, Option, None, Some, eqb, is_some, ◌||◌, Result, Ok, Err}
 use Rattle.std.specs.Prelude.{sum_by, IsSome}
 use Rattle.std.specs.Result.{result_and}
 use Rattle.std.proofs.lemmas.Grind.{common_steps}
@@ -11,10 +11,10 @@ use Rattle.constants.specs.Kind.{nesting_role, opens}
 use Rattle.constants.specs.declared.Role.{Role}
 use Rattle.constants.specs.declared.Role.TheVariants.{Opens, Closes, Neither}
 use Rattle.iter.specs.Step.{scan_of}
-use Rattle.iter.specs.Reading.{bytes_at, rec_at, read_of}
+use Rattle.iter.specs.Reading.{Reading, bytes_at, rec_at, read_of}
 use Rattle.iter.specs.declared.Record.{Record}
 use Rattle.iter.specs.declared.Next.TheVariants as N
-use Rattle.iter.proofs.Reading.{step_fits, read_by}
+use Rattle.iter.proofs.Reading.{read_by}
 use Rattle.iter.proofs.Records.{bytes-length}
 use Rattle.common.specs.Bytes.{le}
 use Rattle.links.specs.Links.{has_next, links_of}
@@ -24,7 +24,7 @@ use Rattle.check_nesting.specs.Check.{size}
 use Rattle.squeezing.specs.declared.landing.Landing.{Landing}
 use Rattle.squeezing.specs.Squeeze.{links_by_role, record_links, next_by, nexts_of}
 use Rattle.squeezing.specs.Landing.{landing_at, Lands}
-use Rattle.squeezing.proofs.Landings.{first_lands}
+use Rattle.squeezing.proofs.Landings.{first_lands, behind_fits}
 use Rattle.squeezing.specs.Plan.{plan_of, Readable, AllReadable}
 
 -- what links_of answers of a readable opener
@@ -72,24 +72,22 @@ unfolding plan_of
 planning_first s first h = record { here_lands = omega arith; known_lands = first_lands s first; readable = h; left = refl }
 
 module _ {s : List ℕ} {first : ℕ} {here known : Landing} (g : Planning s first here known) where
-  pub at_end : {p : ℕ} → (scan_of s here.at).step ≡ Ok (N.End p) → Ok here.to ≡ plan_of s first
+  -- nothing is left
+  ended : (read_of s here.at).recs ≡ [] → Ok here.to ≡ plan_of s first
   unfolding nexts_of
-  at_end {p} e =
-      let none : here.to + 0 ≡ here.to = omega arith in
-      rw (read_by s here.at (Ok (N.End p)) e, none) at g.left
+  ended none =
+      let zero : here.to + 0 ≡ here.to = omega arith in
+      rw (none, zero) at g.left
+
+  pub at_end : {p : ℕ} → (scan_of s here.at).step ≡ Ok (N.End p) → Ok here.to ≡ plan_of s first
+  at_end {p} e = ended (ap (λ (r : Reading). r.recs) (read_by s here.at (Ok (N.End p)) e))
 
   pub at_refused : {x : Refusal} → (scan_of s here.at).step ≡ Err x → Ok here.to ≡ plan_of s first
-  unfolding nexts_of
-  at_refused {x} e =
-      let none : here.to + 0 ≡ here.to = omega arith in
-      rw (read_by s here.at (Err x) e, none) at g.left
+  at_refused {x} e = ended (ap (λ (r : Reading). r.recs) (read_by s here.at (Err x) e))
 
   module _ {it : Record} (e : (scan_of s here.at).step ≡ Ok (N.Record it)) where
     pub readable_here : Readable (bytes_at s it)
     readable_here = (rw (read_by s here.at (Ok (N.Record it)) e) at g.readable).0
-
-    pub behind_fits : here.to + 2 + it.len ≤ it.next
-    behind_fits = omega (arith, g.here_lands, step_fits s here.at it e)
 
     module _ {next : ℕ} (n : next ≡ next_by (record_links (bytes_at s it))) where
       pub at_wrong : (eqb next 0 || is_some (landing_at s first next)) ≡ false → Err (WrongNext it.index) ≡ plan_of s first
@@ -104,7 +102,7 @@ module _ {s : List ℕ} {first : ℕ} {here known : Landing} (g : Planning s fir
           let sizes : here.to + 2 + it.len + sum_by size (read_of s it.next).recs ≡ here.to + sum_by size (rec_at s (scan_of s here.at) it ∷ (read_of s it.next).recs) =
           grind (arith, common_steps, bytes-length s here.at it e) in
           record {
-            here_lands = behind_fits;
+            here_lands = behind_fits s here g.here_lands e;
             known_lands = l;
             readable = (rw y at g.readable).1;
             left = ap (λ (k : ℕ). result_and (nexts_of (landing_at s first) (read_of s it.next).recs) (Ok k)) sizes ∙ (rw (y, sym n, b) at g.left);

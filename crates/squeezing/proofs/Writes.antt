@@ -173,9 +173,6 @@ module _ {s : List ℕ} {first : ℕ} {old buffer openers : List ℕ} {here know
     pub readable_here : Readable (bytes_at s it)
     readable_here = readable nests_here
 
-    pub behind_fits : here.to + 2 + it.len ≤ it.next
-    behind_fits = omega (arith, g.here_lands.low, step_fits s here.at it e)
-
     -- the record with its length field, as it stands in the stream
     abbrev head : List ℕ
     head = take 2 (drop it.index s)

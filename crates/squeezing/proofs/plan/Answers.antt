@@ -4,7 +4,8 @@ use Rattle.iter.proofs.Reading.{step_is}
 use Rattle.iter.proofs.Steps.{record_of, lent_bytes}
 use Rattle.squeezing.specs.Squeeze.{record_links, next_by}
 use Rattle.squeezing.specs.Plan.{Readable}
-use Rattle.squeezing.proofs.Plans.{planning_first, at_end, at_refused, readable_here, behind_fits, at_wrong, goes_on}
+use Rattle.squeezing.proofs.Landings.{behind_fits}
+use Rattle.squeezing.proofs.Plans.{planning_first, at_end, at_refused, readable_here, at_wrong, goes_on}
 use Rattle.squeezing.proofs.plan.Goals as goal
 
 pub loop-r-init : goal.loop-r-init
@@ -26,7 +27,7 @@ returns-then-not-is_named c =
     at_wrong c.loop-r.invariant it (c.next_of-next.ensures ∙ ap (λ b. next_by (record_links b)) (lent_bytes _ _ c.in-Ok-Record.ensures c.in-Ok-Record.field-0-is)) (sym c.if-not-is_named.ensures.named)
 
 pub behind-here-requires : goal.behind-here-requires
-behind-here-requires c = behind_fits c.loop-r.invariant (record_of _ _ c.in-Ok-Record.ensures c.in-Ok-Record.field-0-is)
+behind-here-requires c = behind_fits _ _ c.loop-r.invariant.here_lands (record_of _ _ c.in-Ok-Record.ensures c.in-Ok-Record.field-0-is)
 
 pub loop-r-preserved : goal.loop-r-preserved
 loop-r-preserved c =

@@ -8,7 +8,8 @@ use Rattle.squeezing.specs.Landing.{landing_at}
 use Rattle.squeezing.specs.Plan.{Readable}
 use Rattle.links.specs.Links.{put_parent_and_next}
 use Rattle.squeezing.specs.Write.{innermost}
-use Rattle.squeezing.proofs.Writes.{front_fits, writing_first, at_end, at_refused, readable_here, behind_fits, role_here, frame_fits, copied_length, place_fits, here_fits, neither, inner_within, end_fits, closes_turn, links_fit, next_fits, parent_fits, push_room, opens_turn}
+use Rattle.squeezing.proofs.Landings.{behind_fits}
+use Rattle.squeezing.proofs.Writes.{front_fits, writing_first, at_end, at_refused, readable_here, role_here, frame_fits, copied_length, place_fits, here_fits, neither, inner_within, end_fits, closes_turn, links_fit, next_fits, parent_fits, push_room, opens_turn}
 use Rattle.squeezing.proofs.write.Goals as goal
 
 pub put-requires : goal.put-requires
@@ -29,7 +30,7 @@ next_of-next-requires-clause-readable c =
     subst Readable (sym (lent_bytes _ _ c.in-Ok-Record.ensures c.in-Ok-Record.field-0-is)) (readable_here c.loop-r.invariant it)
 
 pub behind-here-requires : goal.behind-here-requires
-behind-here-requires c = behind_fits c.loop-r.invariant (record_of _ _ c.in-Ok-Record.ensures c.in-Ok-Record.field-0-is)
+behind-here-requires c = behind_fits _ _ c.loop-r.invariant.here_lands.low (record_of _ _ c.in-Ok-Record.ensures c.in-Ok-Record.field-0-is)
 
 pub put-requires-in-Ok-Record : goal.put-requires-in-Ok-Record
 put-requires-in-Ok-Record c = frame_fits c.loop-r.invariant (record_of _ _ c.in-Ok-Record.ensures c.in-Ok-Record.field-0-is)

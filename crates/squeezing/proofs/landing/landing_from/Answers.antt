@@ -14,7 +14,7 @@ pub returns-then-i-r : goal.returns-then-i-r
 returns-then-i-r c = at_past c.loop-r.invariant (step_is _ _ c.step.ensures (c.in-Ok-Record.is ∙ ap Ok c.in-Ok-Record.field-0-is)) c.if-i-r.true
 
 pub behind-here-requires : goal.behind-here-requires
-behind-here-requires c = behind_fits c.loop-r.invariant (step_is _ _ c.step.ensures (c.in-Ok-Record.is ∙ ap Ok c.in-Ok-Record.field-0-is))
+behind-here-requires c = behind_fits _ _ c.loop-r.invariant.low (step_is _ _ c.step.ensures (c.in-Ok-Record.is ∙ ap Ok c.in-Ok-Record.field-0-is))
 
 pub loop-r-smaller : goal.loop-r-smaller
 loop-r-smaller c =
