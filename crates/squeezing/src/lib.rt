@@ -1,5 +1,5 @@
-// Squeezing out filler: a stream written anew without its fillers, save those before the first record. Loops go by position, as all over
-// steps do: a record is more than the bytes that an Iterator would lend.
+// Squeezing out filler: a stream written anew without its fillers, save those before the first record. Two passes over the records: one
+// finds the length and looks at the nexts, one writes.
 #![tactic(auto)]
 
 pub mod landing;
