@@ -221,8 +221,8 @@ uint32_t mitrelilac_climb(const uint8_t *stream, size_t length, size_t i, uint64
  *         the first in the stream
  *     18  the squeezed stream is longer than `room`: 0
  *
- * A call reads the stream a few times, and up to twice more for each next that names an earlier record than the next before it. Linkers
- * write none; docs/PERFORMANCE.md has what many of them cost.
+ * A call reads the stream a few times, and up to twice more for each next that names an earlier record than the next before it;
+ * docs/PERFORMANCE.md has what many of them cost.
  */
 uint32_t mitrelilac_squeeze(const uint8_t *stream, size_t length, size_t start, uint8_t *buffer, size_t room, uint64_t out[MITRELILAC_WORDS(2)]);
 
