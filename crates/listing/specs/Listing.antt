@@ -48,6 +48,13 @@ last_line (refuses e) = refused_line e
 unfoldable pub text_of : Reading → List ℕ
 text_of r = lines_of r.recs ++ last_line r.last.ending
 
+-- how long a stream may be that is listed, and where its records begin, behind the signature
+abbrev pub max_listed : ℕ
+max_listed = 65536
+
+abbrev pub listed_from : ℕ
+listed_from = 4
+
 -- above 65,536 bytes `refused 5 0`; else it walks from 4
 unfoldable pub listing_of : List ℕ → List ℕ
-listing_of s = cond (ltb 65536 (length s)) (refused_line TooLong) (text_of (read_of s 4))
+listing_of s = cond (ltb max_listed (length s)) (refused_line TooLong) (text_of (read_of s listed_from))

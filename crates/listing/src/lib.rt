@@ -10,7 +10,7 @@ ghost use Rattle.std.specs.Prelude.{◌≡◌, ◌+◌, ◌≤◌, length, Match
 ghost use Rattle.io.specs.Counts.{IsPrefixLen};
 ghost use Rattle.symbol.specs.Name.{name_of};
 ghost use Rattle.iter.specs.Reading.{ends, refuses, read_of};
-ghost use Rattle.listing.specs.Listing.{name_shown, line_of, refused_line, lines_of, listing_of};
+ghost use Rattle.listing.specs.Listing.{name_shown, line_of, refused_line, lines_of, max_listed, listed_from, listing_of};
 ghost use Rattle.listing.specs.Puts.{Puts, HasRoom, Writes};
 
 use common::Refusal;
@@ -19,6 +19,9 @@ use text::Text;
 
 /// The longest stream that is listed.
 pub const MAX_LISTED: usize = 65536;
+
+/// Where the records of a stream begin that is listed: behind the signature.
+pub const LISTED_FROM: usize = 4;
 
 /// Room for the listing of any stream: a line is at most 13 times as long as its record with the length field.
 pub const TEXT_ROOM: usize = 13 * MAX_LISTED;
@@ -77,12 +80,12 @@ fn put_refused(text: &mut Text, refusal: Refusal)
 #[tactic(auto, using(iter::proofs::Steps::start_le_next, iter::proofs::Steps::next_within, iter::proofs::Steps::less_left))]
 fn put_lines(text: &mut Text, s: &[u8]) -> Result<(), Refusal>
     requires empty { text.old.len ≡ 0 }
-    requires listed { length s.now ≤ 65536 }
-    ensures lines { Writes (lines_of (read_of s.now 4).recs) text.old text.new }
-    ensures ending { MatchResult result (λ _. (read_of s.now 4).last.ending ≡ ends) (λ e. (read_of s.now 4).last.ending ≡ refuses e) }
+    requires listed { length s.now ≤ max_listed }
+    ensures lines { Writes (lines_of (read_of s.now listed_from).recs) text.old text.new }
+    ensures ending { MatchResult result (λ _. (read_of s.now listed_from).last.ending ≡ ends) (λ e. (read_of s.now listed_from).last.ending ≡ refuses e) }
     ensures room { text.new.len + 50 ≤ TEXT_ROOM }
 {
-    let mut at = 4;
+    let mut at = LISTED_FROM;
     // By position: the check counts fillers and the jump leaves the row, so that an Iterator would serve the walk and the listing alone.
     loop {
         match iter::step(s, at)? {

@@ -2,8 +2,9 @@
 use Rattle.std.specs.Prelude.{ℕ, List, cond, length, ltb, Result, Err}
 use Rattle.common.specs.declared.Refusal.{Refusal}
 use Rattle.common.specs.declared.Refusal.TheVariants.{TooLong}
+use Rattle.listing.specs.Listing.{max_listed, listed_from}
 use Rattle.squeezing.specs.Squeeze.{squeeze_of}
 
 -- above 65,536 bytes `refused 5 0`, as the listing; else it squeezes from 4
 abbrev pub listed_squeeze : List ℕ → ℕ → Result ℕ Refusal
-listed_squeeze s room = cond (ltb 65536 (length s)) (Err TooLong) (squeeze_of s 4 room)
+listed_squeeze s room = cond (ltb max_listed (length s)) (Err TooLong) (squeeze_of s listed_from room)

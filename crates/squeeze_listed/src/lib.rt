@@ -2,22 +2,20 @@
 #![tactic(auto, unfolding(squeezing::specs::Squeeze::squeeze_of))]
 
 ghost use Rattle.std.specs.Prelude.{◌≡◌, ◌≤◌, length, IfOk};
+ghost use Rattle.listing.specs.Listing.{listed_from};
 ghost use Rattle.squeezing.specs.Squeeze.{squeezed, buffer_by};
 ghost use Rattle.squeeze_listed.specs.Listed.{listed_squeeze};
 
 use common::Refusal;
 
-/// Where the records of a module's stream begin: behind its signature.
-const START: usize = 4;
-
 /// Squeezes a stream into a lent buffer, and answers the length written, which the buffer holds.
 pub fn squeeze_listed(s: &[u8], buffer: &mut [u8]) -> Result<usize, Refusal>
     ensures value { result ≡ listed_squeeze s.now (length buffer.old) }
-    ensures buffer { buffer.new ≡ buffer_by (listed_squeeze s.now (length buffer.old)) (squeezed s.now 4) buffer.old }
+    ensures buffer { buffer.new ≡ buffer_by (listed_squeeze s.now (length buffer.old)) (squeezed s.now listed_from) buffer.old }
     ensures fits { IfOk result (λ n. n ≤ length buffer.new) }
 {
     if listing::MAX_LISTED < s.len() {
         return Err(Refusal::TooLong);
     }
-    squeezing::squeeze(s, START, buffer)
+    squeezing::squeeze(s, listing::LISTED_FROM, buffer)
 }
