@@ -1,7 +1,7 @@
 -- Reading from the first record on gives what reading from the start gives, but for the fillers before it: the loops do what the squeeze is.
 -- Assumes nothing.
 use Rattle.std.proofs.Common.{ℕ, ◌+◌, ◌≤◌, ◌<◌, ◌≡◌, refl, sym, ap, ◌∙◌, subst, arith, List, [], ◌∷◌, length, length-append, length-drop, length-take-le, take, drop, Option, Result, Ok, Err}
-use Rattle.std.specs.Prelude.{sum_by, IsSome}
+use Rattle.std.specs.Prelude.{sum_by}
 use Rattle.std.specs.Result.{result_and}
 use Rattle.std.proofs.lemmas.Grind.{common_steps}
 use Rattle.std.proofs.lemmas.List.{drop_all}
@@ -17,11 +17,11 @@ use Rattle.iter.proofs.Rows.{Wholes, wholes, read_left}
 use Rattle.check_nesting.specs.declared.act.Open.{Open}
 use Rattle.check_nesting.specs.declared.Counts.{Counts}
 use Rattle.check_nesting.specs.Check.{size, check_of}
-use Rattle.check_nesting.specs.Nesting.{Nests, done, passes, opens, closes, NestsIn}
+use Rattle.check_nesting.specs.Nesting.{Nests, passes, opens, closes, NestsIn}
 use Rattle.check_nesting.proofs.Nesting.{good_nests}
 use Rattle.squeezing.specs.Squeeze.{lands_from, first_in, first_of, row, nexts_of, fitting, squeezed_from, squeezed, squeeze_of}
 use Rattle.squeezing.specs.Landing.{landing_at}
-use Rattle.squeezing.specs.Plan.{plan_of, AllReadable}
+use Rattle.squeezing.specs.Plan.{plan_of}
 use Rattle.squeezing.proofs.Moved.{moved_length}
 
 -- a record, read from its own index
@@ -68,12 +68,6 @@ nests_bare : {r : Rec} {rs : List Rec} {st : List Open} → Nests (r ∷ rs) st 
 nests_bare (passes {r = r} n d) = passes {r = bare r} n d
 nests_bare (opens {r = r} n e z p m d) = opens {r = bare r} n e z p m d
 nests_bare (closes {r = r} n e d) = closes {r = bare r} n e d
-
-all_readable : {rs : List Rec} {st : List Open} → Nests rs st → AllReadable rs
-all_readable done = tt
-all_readable (passes n d) = ((λ o. cc), all_readable d)
-all_readable (opens n e z p m d) = ((λ o. subst IsSome (sym e) refl), all_readable d)
-all_readable (closes n e d) = ((λ o. cc), all_readable d)
 
 -- what the squeeze is, by what the plan says
 abbrev on_plan : Result ℕ Refusal → ℕ → Result ℕ Refusal
@@ -147,9 +141,6 @@ module _ (s : List ℕ) (start : ℕ) {c : Counts} (ok : check_of s start ≡ Ok
 
     pub nests : Nests (read_of s at).recs []
     nests = rw f first_nests
-
-    pub readable : AllReadable (read_of s at).recs
-    readable = all_readable nests
 
     pub written : squeezed_from s at (read_of s at).recs ≡ squeezed s start
     written = ap (λ n. squeezed_from s n (read_of s n).recs) f ∙ squeezed_is

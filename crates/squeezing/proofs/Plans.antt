@@ -20,12 +20,15 @@ use Rattle.common.specs.Bytes.{le}
 use Rattle.links.specs.Links.{has_next, links_of}
 use Rattle.links.specs.declared.Links.{Links}
 use Rattle.links.proofs.Relinked.{links_is, next_within}
+use Rattle.check_nesting.specs.declared.act.Open.{Open}
 use Rattle.check_nesting.specs.Check.{size}
+use Rattle.check_nesting.specs.Nesting.{Nests}
+use Rattle.check_nesting.proofs.Heads.{read_nests, head_read, rest_nests}
 use Rattle.squeezing.specs.declared.landing.Landing.{Landing}
 use Rattle.squeezing.specs.Squeeze.{links_by_role, record_links, next_by, nexts_of}
 use Rattle.squeezing.specs.Landing.{landing_at, Lands}
 use Rattle.squeezing.proofs.Landings.{first_lands, behind_fits}
-use Rattle.squeezing.specs.Plan.{plan_of, Readable, AllReadable}
+use Rattle.squeezing.specs.Plan.{plan_of, Readable}
 
 -- what links_of answers of a readable opener
 read_links : (bytes : List ℕ) → Readable bytes → nesting_role_of bytes ≡ Opens → (l : Links) × (links_of bytes ≡ Some l)
@@ -64,12 +67,13 @@ plan_left s first here = result_and (nexts_of (landing_at s first) (read_of s he
 pub record Planning (s : List ℕ) (first : ℕ) (here known : Landing) : Type 0 where
   pub here_lands : here.to ≤ here.at
   pub known_lands : Lands s first known
-  pub readable : AllReadable (read_of s here.at).recs
+  pub st : List Open
+  pub nests : Nests (read_of s here.at).recs st
   pub left : plan_left s first here ≡ plan_of s first
 
-pub planning_first : (s : List ℕ) (first : ℕ) → AllReadable (read_of s first).recs → Planning s first (record { at = first; to = first }) (record { at = first; to = first })
+pub planning_first : (s : List ℕ) (first : ℕ) → Nests (read_of s first).recs [] → Planning s first (record { at = first; to = first }) (record { at = first; to = first })
 unfolding plan_of
-planning_first s first h = record { here_lands = omega arith; known_lands = first_lands s first; readable = h; left = refl }
+planning_first s first h = record { here_lands = omega arith; known_lands = first_lands s first; st = []; nests = h; left = refl }
 
 module _ {s : List ℕ} {first : ℕ} {here known : Landing} (g : Planning s first here known) where
   -- nothing is left
@@ -86,8 +90,11 @@ module _ {s : List ℕ} {first : ℕ} {here known : Landing} (g : Planning s fir
   at_refused {x} e = ended (ap (λ (r : Reading). r.recs) (read_by s here.at (Err x) e))
 
   module _ {it : Record} (e : (scan_of s here.at).step ≡ Ok (N.Record it)) where
+    nests_here : Nests (rec_at s (scan_of s here.at) it ∷ (read_of s it.next).recs) g.st
+    nests_here = read_nests s here.at e g.nests
+
     pub readable_here : Readable (bytes_at s it)
-    readable_here = (rw (read_by s here.at (Ok (N.Record it)) e) at g.readable).0
+    readable_here = head_read nests_here
 
     module _ {next : ℕ} (n : next ≡ next_by (record_links (bytes_at s it))) where
       pub at_wrong : (eqb next 0 || is_some (landing_at s first next)) ≡ false → Err (WrongNext it.index) ≡ plan_of s first
@@ -104,6 +111,7 @@ module _ {s : List ℕ} {first : ℕ} {here known : Landing} (g : Planning s fir
           record {
             here_lands = behind_fits s here g.here_lands e;
             known_lands = l;
-            readable = (rw y at g.readable).1;
+            st = (rest_nests nests_here).0;
+            nests = (rest_nests nests_here).1;
             left = ap (λ (k : ℕ). result_and (nexts_of (landing_at s first) (read_of s it.next).recs) (Ok k)) sizes ∙ (rw (y, sym n, b) at g.left);
           }

@@ -1,7 +1,6 @@
 -- Laws of the writing loop: what is written is the squeezed stream, but for the ends of the openers that are not closed yet.
 -- Assumes nothing.
 use Rattle.std.proofs.Common.{ℕ, ◌+◌, ◌-◌, ◌≤◌, ◌<◌, ◌≡◌, refl, sym, ap, ◌∙◌, subst, arith, List, [], ◌∷◌, ◌++◌, append_assoc, append-nil, map, reverse, length, length-append, length-take-le, length-drop, take, drop, Option, Some, Ok, Err, true, ne_eqb}
-use Rattle.std.specs.Prelude.{IsSome}
 use mathlib.Core.List.{tail}
 use lib.Seq.{take-add, drop-drop}
 use Rattle.std.proofs.lemmas.List.{length-reverse, length-map, reverse-append}
@@ -21,13 +20,13 @@ use Rattle.iter.specs.declared.Next.TheVariants as N
 use Rattle.iter.proofs.Reading.{step_fits, read_by}
 use Rattle.iter.proofs.Records.{kind_of, role_of_lem, rising, bytes-length}
 use Rattle.iter.proofs.Rows.{wholes}
-use Rattle.links.specs.Links.{has_next, links_of, put_parent_and_next, with_links}
-use Rattle.links.specs.declared.Links.{Links}
+use Rattle.links.specs.Links.{has_next, put_parent_and_next, with_links}
 use Rattle.links.proofs.Relinked.{links_within, next_within, put_in_record, links_length, links_put}
 use Rattle.check_nesting.specs.declared.act.Open.{Open}
 use Rattle.check_nesting.proofs.Checks.{popped}
 use Rattle.check_nesting.specs.Stack.{open_scope, inner_index}
-use Rattle.check_nesting.specs.Nesting.{Nests, done, passes, opens, closes}
+use Rattle.check_nesting.specs.Nesting.{Nests}
+use Rattle.check_nesting.proofs.Heads.{none_open, read_nests, head_read, head_passes, Opened, head_opens, Closed, head_closes}
 use Rattle.squeezing.specs.declared.landing.Landing.{Landing}
 use Rattle.squeezing.specs.Squeeze.{moved_link, record_links, next_by, moved, row, squeezed_from}
 use Rattle.squeezing.specs.Landing.{landing_at, Lands}
@@ -108,51 +107,12 @@ writing_first s first old within nests room =
       inside = within;
     }
 
--- what the next record is where records nest
-readable : {r : Rec} {rs : List Rec} {st : List Open} → Nests (r ∷ rs) st → Readable r.bytes
-readable (passes n d) o = cc
-readable (opens n e z p m d) o = subst IsSome (sym e) refl
-readable (closes n e d) o = cc
-
-at_neither : {r : Rec} {rs : List Rec} {st : List Open} → Nests (r ∷ rs) st → nesting_role_of r.bytes ≡ Neither → Nests rs st
-at_neither (passes n d) o = d
-at_neither (opens n e z p m d) o = cc
-at_neither (closes n e d) o = cc
-
-record Opened (r : Rec) (rs : List Rec) (st : List Open) : Type 0 where
-  links : Links
-  read : links_of r.bytes ≡ Some links
-  above : 0 < r.index
-  parent : links.parent ≡ inner_index st
-  few : length st < 64
-  rest : Nests rs (open_scope r.index links ∷ st)
-
-at_opener : {r : Rec} {rs : List Rec} {st : List Open} → Nests (r ∷ rs) st → nesting_role_of r.bytes ≡ Opens → Opened r rs st
-at_opener (passes n d) o = cc
-at_opener (opens {l = l} n e z p m d) o = record { links = l; read = e; above = z; parent = p; few = m; rest = d }
-at_opener (closes n e d) o = cc
-
-record Closed (r : Rec) (rs : List Rec) (st : List Open) : Type 0 where
-  inner : Open
-  outer : List Open
-  is : st ≡ inner ∷ outer
-  end : inner.end ≡ r.index
-  rest : Nests rs outer
-
-at_closer : {r : Rec} {rs : List Rec} {st : List Open} → Nests (r ∷ rs) st → nesting_role_of r.bytes ≡ Closes → Closed r rs st
-at_closer (passes n d) o = cc
-at_closer (opens n e z p m d) o = cc
-at_closer (closes {o = x} {st = st} n e d) o = record { inner = x; outer = st; is = refl; end = e; rest = d }
-
-all_closed : {st : List Open} → Nests [] st → st ≡ []
-all_closed done = refl
-
 module _ {s : List ℕ} {first : ℕ} {old buffer openers : List ℕ} {here known : Landing} (g : Writing s first old buffer openers here known) where
   -- nothing is left
   ended : (read_of s here.at).recs ≡ [] → buffer ≡ put 0 (squeezed_from s first (read_of s first).recs) old
   unfolding patched put row
   ended none =
-      let closed : g.st ≡ [] = all_closed (subst (λ rs. Nests rs g.st) none g.nests) in
+      let closed : g.st ≡ [] = none_open (subst (λ rs. Nests rs g.st) none g.nests) in
       let out : g.out ≡ squeezed_from s first (read_of s first).recs = sym (append-nil g.out) ∙ (rw (none, closed) at g.left) in
       let end : here.to ≡ 0 + length (squeezed_from s first (read_of s first).recs) = omega (arith, ap length out, g.long) in
       g.written ∙ (λ i. out i ++ drop (end i) old)
@@ -168,10 +128,10 @@ module _ {s : List ℕ} {first : ℕ} {old buffer openers : List ℕ} {here know
     rec = rec_at s (scan_of s here.at) it
 
     nests_here : Nests (rec ∷ (read_of s it.next).recs) g.st
-    nests_here = subst (λ rs. Nests rs g.st) (ap (λ (r : Reading). r.recs) (read_by s here.at (Ok (N.Record it)) e)) g.nests
+    nests_here = read_nests s here.at e g.nests
 
     pub readable_here : Readable (bytes_at s it)
-    readable_here = readable nests_here
+    readable_here = head_read nests_here
 
     -- the record with its length field, as it stands in the stream
     abbrev head : List ℕ
@@ -276,13 +236,13 @@ module _ {s : List ℕ} {first : ℕ} {old buffer openers : List ℕ} {here know
     -- a record that opens no scope and closes none
     pub neither : {bs : List ℕ} {k : Landing} → nesting_role_of (bytes_at s it) ≡ Neither → bs ≡ put here.to frame buffer → Lands s first k → Writing s first old bs openers behind k
     neither o w k =
-        next_turn g.st (g.out ++ (head ++ bytes_at s it)) (at_neither nests_here o) k g.places below_behind (out_length (bytes_at s it) (bytes-length s here.at it e)) (w ∙ copied)
+        next_turn g.st (g.out ++ (head ++ bytes_at s it)) (head_passes nests_here o) k g.places below_behind (out_length (bytes_at s it) (bytes-length s here.at it e)) (w ∙ copied)
         (rw (moved_is (landing_at s first) (bytes_at s it) o) at left)
 
     -- a closer: the end of its opener is written
     module _ (o : nesting_role_of (bytes_at s it) ≡ Closes) where
       closed : Closed rec (read_of s it.next).recs g.st
-      closed = at_closer nests_here o
+      closed = head_closes nests_here o
 
       places_are : reverse openers ≡ moved_link (landing_at s first) closed.inner.index ∷ map (λ o. moved_link (landing_at s first) o.index) closed.outer
       places_are = g.places ∙ ap (map (λ o. moved_link (landing_at s first) o.index)) closed.is
@@ -322,7 +282,7 @@ module _ {s : List ℕ} {first : ℕ} {old buffer openers : List ℕ} {here know
     -- an opener: its parent and its next are written, and it waits for its end
     module _ (o : nesting_role_of (bytes_at s it) ≡ Opens) where
       opened : Opened rec (read_of s it.next).recs g.st
-      opened = at_opener nests_here o
+      opened = head_opens nests_here o
 
       within : here.to + 2 + 10 ≤ behind.to
       within = omega (arith, links_within (bytes_at s it) o opened.read, bytes-length s here.at it e)

@@ -1,10 +1,10 @@
 -- What the planning loop answers, and what it asks of records.
-use Rattle.std.specs.Prelude.{ℕ, ◌+◌, ◌≡◌, List, [], ◌∷◌, sum_by, IsSome, Result, Ok}
+use Rattle.std.specs.Prelude.{ℕ, ◌+◌, ◌≡◌, List, sum_by, IsSome, Result, Ok}
 use Rattle.std.specs.Result.{result_and}
 use Rattle.common.specs.declared.Refusal.{Refusal}
 use Rattle.constants.specs.Raw.{nesting_role_of}
 use Rattle.constants.specs.declared.Role.TheVariants.{Opens}
-use Rattle.iter.specs.Reading.{Rec, read_of}
+use Rattle.iter.specs.Reading.{read_of}
 use Rattle.links.specs.Links.{links_of}
 use Rattle.check_nesting.specs.Check.{size}
 use Rattle.squeezing.specs.Squeeze.{nexts_of}
@@ -17,7 +17,3 @@ plan_of s first = result_and (nexts_of (landing_at s first) (read_of s first).re
 -- decode answers the record, if it is an opener
 abbrev pub Readable : List ℕ → Type 0
 Readable bytes = nesting_role_of bytes ≡ Opens → IsSome (links_of bytes)
-
-abbrev pub AllReadable : List Rec → Type 0
-AllReadable [] = Unit
-AllReadable (r ∷ rs) = Readable r.bytes × AllReadable rs

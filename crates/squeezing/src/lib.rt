@@ -12,7 +12,7 @@ ghost use Rattle.check_nesting.specs.Nesting.{Nests};
 ghost use Rattle.squeezing.specs.Squeeze.{moved_link, record_links, next_by, squeezed_from, squeezed, squeeze_of, buffer_by};
 ghost use Rattle.squeezing.specs.Squeezes.{Squeezes};
 ghost use Rattle.squeezing.specs.Landing.{Lands, landing_at};
-ghost use Rattle.squeezing.specs.Plan.{plan_of, Readable, AllReadable};
+ghost use Rattle.squeezing.specs.Plan.{plan_of, Readable};
 ghost use Rattle.squeezing.specs.Write.{innermost};
 
 use arrayvec::ArrayVec;
@@ -48,7 +48,7 @@ fn is_named(s: &[u8], first: usize, known: &mut Landing, next: usize) -> bool
 /// The length of the squeezed stream, or 17.
 #[tactic(auto, using(iter::proofs::Steps::start_le_next, iter::proofs::Steps::next_within, iter::proofs::Steps::less_left, iter::proofs::Steps::lent_kind))]
 fn plan(s: &[u8], first: usize) -> Result<usize, Refusal>
-    requires { AllReadable (read_of s.now first).recs }
+    requires { Nests (read_of s.now first).recs [] }
     ensures { result ≡ plan_of s.now first }
 {
     let mut here = Landing::first(first);

@@ -1,7 +1,7 @@
 -- `squeezing::squeeze` meets its contract.
 use Rattle.std.proofs.Common.{length, rules, arith, sym, ap}
 use Rattle.squeezing.specs.Squeeze.{squeezed, buffer_by}
-use Rattle.squeezing.proofs.First.{squeeze_refused, nests, readable, written, plan_refused, too_long, fits, plan_length}
+use Rattle.squeezing.proofs.First.{squeeze_refused, nests, written, plan_refused, too_long, fits, plan_length}
 use Rattle.squeezing.proofs.Squeezes.{call_squeezes}
 use Rattle.squeezing.proofs.squeeze.Goals as goal
 
@@ -12,7 +12,7 @@ pub returns-in_err-check-clause-buffer : goal.returns-in_err-check-clause-buffer
 returns-in_err-check-clause-buffer c = ap (λ r. buffer_by r (squeezed c.args.s.now c.args.start) c.args.buffer.now) (sym (squeeze_refused _ _ _ (sym c.in_err-check.ensures.value)))
 
 pub plan-requires : goal.plan-requires
-plan-requires c = readable _ _ (sym c.in_ok-check.ensures.value) c.first_index-first.ensures
+plan-requires c = nests _ _ (sym c.in_ok-check.ensures.value) c.first_index-first.ensures
 
 pub returns-in_err-n-clause-value : goal.returns-in_err-n-clause-value
 returns-in_err-n-clause-value c = search (rules, plan_refused _ _ (sym c.in_ok-check.ensures.value) c.first_index-first.ensures (length c.args.buffer.now) c.in_err-n.ensures)
