@@ -214,7 +214,8 @@ uint32_t mitrelilac_climb(const uint8_t *stream, size_t length, size_t i, uint64
  * `length` bytes of room always suffice. Buffer and stream may not overlap.
  *
  * From the same start the squeezed stream passes mitrelilac_check, and steps yield the same records in order, but for their moved
- * links, and pass over no filler behind the first one. This is proved (crates/squeezing/specs/Squeezes.antt).
+ * links, and pass over no filler behind the first one; squeezed again it stays as it is. This is proved
+ * (crates/squeezing/specs/Squeezes.antt).
  *
  * It checks first, and refuses as mitrelilac_check does. After that
  *     17  a procedure's or a thunk's next is not 0, and no record from `start` on has that index: the opener's index; of several

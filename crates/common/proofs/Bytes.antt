@@ -4,7 +4,7 @@ use Rattle.std.proofs.Common.{ℕ, zero, suc, ◌+◌, ◌^◌, ◌≤◌, ◌<�
 use lib.Seq.{take-append_seam, take-append-add, drop-append-add}
 use Rattle.std.specs.Int.{w32, to_le_bytes}
 use Rattle.std.proofs.lemmas.Grind.{common_steps}
-use Rattle.std.proofs.lemmas.List.{get_or-append-add, get_or_append_left, get_or-take, get_or-drop, length-take, length-take-le, length-drop, length-append, drop-drop, drop_at}
+use Rattle.std.proofs.lemmas.List.{get_or-append-add, get_or_append_left, get_or-take, get_or-drop, length-take, length-take-le, length-drop, length-append, drop-drop, drop_at, take_at, take-append-le, drop-append-le, take-append-drop}
 use Rattle.std.proofs.lemmas.Slice.{drop-put_mid}
 use Rattle.std.proofs.lemmas.Nat.{from_le_bytes-to_le_bytes_4}
 use Rattle.common.specs.Bytes.{le, be, put, put_u32}
@@ -51,6 +51,38 @@ module _ (at : ℕ) (xs s : List ℕ) where
     unfolding le
     le_before_put zero k before = refl
     le_before_put (suc n) k before = grind (arith, get_or_before_put k (omega arith), le_before_put n (suc k) (omega arith))
+
+-- bytes stand at a place
+abbrev pub There : ℕ → List ℕ → List ℕ → Type 0
+There at xs s = take (length xs) (drop at s) ≡ xs
+
+module _ (at : ℕ) (xs s : List ℕ) where
+  -- put there, they change nothing
+  pub put_there : There at xs s → put at xs s ≡ s
+  put_there there =
+      put_is at xs s
+      ∙ ap (λ rest. take at s ++ rest) ((λ i. sym there i ++ sym (drop-drop (length xs) at s) i) ∙ take-append-drop (length xs) (drop at s))
+      ∙ take-append-drop at s
+
+  -- they do once they were put there, and go on where others are put before or behind
+  pub there_put : at ≤ length s → There at xs (put at xs s)
+  there_put within = ap (take (length xs)) (drop_put_here at xs s within) ∙ take_at xs (drop (at + length xs) s) (length xs) refl
+
+  module _ (to : ℕ) (ys : List ℕ) (within : to ≤ length s) (there : There at xs s) where
+    pub there_behind : to + length ys ≤ at → There at xs (put to ys s)
+    there_behind behind = ap (take (length xs)) (drop_put to ys s within at behind) ∙ there
+
+    pub there_before : at + length xs ≤ to → There at xs (put to ys s)
+    there_before before =
+        let long : length (take to s) ≡ to = length-take-le to s within in
+        let front = λ (rest : List ℕ).
+        ap (take (length xs)) (drop-append-le at (take to s) rest (omega (arith, long)))
+        ∙ take-append-le (length xs) (drop at (take to s)) rest (omega (arith, long, length-drop at (take to s))) in
+        ap (λ x. take (length xs) (drop at x)) (put_is to ys s)
+        ∙ front (ys ++ drop (to + length ys) s)
+        ∙ sym (front (drop to s))
+        ∙ ap (λ x. take (length xs) (drop at x)) (take-append-drop to s)
+        ∙ there
 
 pub le_put_u32 : (at x : ℕ) (s : List ℕ) → at ≤ length s → x < 2 ^ 32 → le 4 (put_u32 at x s) at ≡ x
 unfolding le

@@ -150,7 +150,7 @@ module _ (t : List ℕ) (at : ℕ) {f : Piece} (fs : List Piece) (ok : Sound f) 
   bytes_there : take (length f.body) (drop (at + 2) t) ≡ f.body
   bytes_there = ap (take (length f.body)) body_there ∙ take_at f.body (row fs) (length f.body) refl
 
-  rest_there : drop (at + 2 + length f.body) t ≡ row fs
+  pub rest_there : drop (at + 2 + length f.body) t ≡ row fs
   rest_there = sym (drop-drop (length f.body) (at + 2) t) ∙ ap (drop (length f.body)) body_there ∙ drop_at f.body (row fs) (length f.body) refl
 
 scan_end : (t : List ℕ) (at : ℕ) → length t ≤ at → length t ≤ 4294967295 → scan_of t at ≡ plain (Ok (N.End (length t)))

@@ -4,7 +4,7 @@ use Rattle.std.proofs.Common.{ℕ, ◌≡◌, refl, sym, ◌∙◌, ap, ◌+◌,
 use lib.Dec.{ltb, leb}
 use Rattle.std.specs.Int.{w32, to_le_bytes}
 use Rattle.common.specs.Bytes.{le, put, put_u32}
-use Rattle.common.proofs.Bytes.{le_drop, length_put, drop_put, le_behind_put, le_before_put, le_put_u32, put_before, put_behind}
+use Rattle.common.proofs.Bytes.{le_drop, length_put, drop_put, le_behind_put, le_before_put, le_put_u32, put_before, put_behind, There, put_there, there_put, there_behind, there_before}
 use Rattle.common.specs.Reader.{Read, Reader, done, next, number, runs_out, ◌>>=◌}
 use Rattle.common.specs.declared.Refusal.{Refusal}
 use Rattle.common.specs.declared.Refusal.TheVariants.{TooLong}
@@ -154,6 +154,31 @@ placed : (n : Bool) (m : Links) (s : List ℕ) → 10 ≤ length s → (n ≡ tr
 placed true m s room next = let room_2 : 14 ≤ length s = next refl in grind (arith, length_put, drop_put, le_before_put, le_behind_put, le_put_u32)
 placed false m s room next = grind (arith, length_put, drop_put, le_before_put, le_behind_put, le_put_u32)
 
+-- a parent, a next where there is one, and an end, put in a record
+abbrev anew : Bool → List ℕ → List ℕ → List ℕ → List ℕ → List ℕ
+anew n parent end next s = put 6 end (cond n (put 10 next (put 2 parent s)) (put 2 parent s))
+
+module _ (p e x s : List ℕ) (long_p : length p ≡ 4) (long_e : length e ≡ 4) (long_x : length x ≡ 4) (room : 10 ≤ length s) where
+  long : length (put 2 p s) ≡ length s
+  long = length_put 2 p s (omega arith)
+
+  parent_there : There 2 p (put 2 p s)
+  parent_there = there_put 2 p s (omega arith)
+
+  put_again : (n : Bool) → (n ≡ true → 14 ≤ length s) → anew n p e x (anew n p e x s) ≡ anew n p e x s
+  put_again true more =
+      let b : List ℕ = put 10 x (put 2 p s) in
+      let long_b : length b ≡ length s = length_put 10 x (put 2 p s) (omega (arith, long, more refl)) ∙ long in
+      let parent = there_before 2 p b 6 e (omega (arith, long_b)) (there_before 2 p (put 2 p s) 10 x (omega (arith, long)) parent_there (omega arith)) (omega arith) in
+      let next = there_behind 10 x b 6 e (omega (arith, long_b)) (there_put 10 x (put 2 p s) (omega (arith, long))) (omega arith) in
+      let end = there_put 6 e b (omega (arith, long_b)) in
+      rw (put_there 2 p (put 6 e b) parent, put_there 10 x (put 6 e b) next, put_there 6 e (put 6 e b) end) refl
+  put_again false more =
+      let a : List ℕ = put 2 p s in
+      let parent = there_before 2 p a 6 e (omega (arith, long)) parent_there (omega arith) in
+      let end = there_put 6 e a (omega (arith, long)) in
+      rw (put_there 2 p (put 6 e a) parent, put_there 6 e (put 6 e a) end) refl
+
 pub links_is : (s : List ℕ) {l : Links} → links_of s ≡ Some l → l ≡ links_in s
 links_is s e = (was_read s e).2
 
@@ -184,6 +209,14 @@ module _ (s : List ℕ) {l : Links} (opens : nesting_role_of s ≡ Opens) (read 
         by : (b : Bool) → has_next (raw_kind s) ≡ b → cond (has_next (raw_kind s)) (le 4 (with_links m s) 10) 0 ≡ m.next
         by true h = rw h (with_links_placed.next n h)
         by false h = rw h (sym (none h))
+
+    -- once more, they change nothing
+    pub with_links_again : with_links m (with_links m s) ≡ with_links m s
+    unfolding with_links
+    with_links_again =
+        let four : ℕ → List ℕ = to_le_bytes w32 in
+        ap (λ k. anew (has_next k) (four m.parent) (four m.end) (four m.next) (with_links m s)) with_links_kind
+        ∙ put_again (four m.parent) (four m.end) (four m.next) s refl refl refl links_within (has_next (raw_kind s)) next_within
 
 -- bytes put in a record that stands behind others, with its length field between
 pub put_in_record : (out head bytes xs : List ℕ) (at : ℕ) {n : ℕ} → length out ≡ n → length head ≡ 2 → put (n + 2 + at) xs (out ++ (head ++ bytes)) ≡ out ++ (head ++ put at xs bytes)

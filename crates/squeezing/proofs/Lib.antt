@@ -6,3 +6,4 @@ pub mod Squeezed
 pub mod Kept
 pub mod Squeezes
 pub mod First
+pub mod Twice

@@ -1,6 +1,6 @@
 -- Steps over the squeezed stream yield the records one behind the other, their links moved, and nothing is passed over behind the first.
 -- Assumes nothing.
-use Rattle.std.proofs.Common.{ℕ, ◌+◌, ◌≤◌, ◌<◌, ◌^◌, ◌≡◌, refl, sym, ap, ◌∙◌, subst, arith, List, [], ◌∷◌, ◌++◌, length, take, drop, map, length-append, length-take-le, length-drop, append_assoc, add-zero, take-take, eqb, Option, Ok}
+use Rattle.std.proofs.Common.{ℕ, ◌+◌, ◌≤◌, ◌<◌, ◌^◌, ◌≡◌, refl, sym, ap, ◌∙◌, subst, arith, List, [], ◌∷◌, ◌++◌, length, take, drop, map, length-append, length-take-le, length-drop, drop_at, append_assoc, add-zero, take-take, eqb, Option, Ok}
 use Rattle.std.proofs.lemmas.Grind.{common_steps}
 use Rattle.std.proofs.lemmas.List.{take-append-le}
 use Rattle.constants.specs.Kind.{is_filler}
@@ -20,10 +20,10 @@ use Rattle.squeezing.proofs.Moved.{moved_length, moved_number}
 
 module _ (s : List ℕ) (to : ℕ → Option ℕ) where
   -- the records as they are written
-  abbrev piece : Rec → Piece
+  abbrev pub piece : Rec → Piece
   piece r = record { head = take 2 (drop r.index s); body = moved to r.bytes }
 
-  abbrev pieces : List Rec → List Piece
+  abbrev pub pieces : List Rec → List Piece
   pieces = map piece
 
   row_is : (rs : List Rec) → row s to rs ≡ R.row (pieces rs)
@@ -31,7 +31,7 @@ module _ (s : List ℕ) (to : ℕ → Option ℕ) where
   row_is [] = refl
   row_is (r ∷ rs) = rw (row_is rs) (append_assoc (take 2 (drop r.index s)) (moved to r.bytes) (R.row (pieces rs)))
 
-  sound : {r : Rec} → Whole s r → Sound (piece r)
+  pub sound : {r : Rec} → Whole s r → Sound (piece r)
   sound {r} w =
       record {
         two = length-take-le 2 (drop r.index s) (simp length-drop (omega (arith, w.fits)));
@@ -80,6 +80,8 @@ pub record Reads (s : List ℕ) (start : ℕ) (t : List ℕ) : Type 0 where
   pub no_fillers : NoFillers others
   pub small : (x : ℕ) → moved_link (lands_from r.index (r ∷ rs)) x < 2 ^ 32
   pub before : take start t ≡ take start s
+  pub wholes : Wholes s (r ∷ rs)
+  pub left : drop r.index t ≡ R.row (pieces s (lands_from r.index (r ∷ rs)) (r ∷ rs))
 
 pub squeezed_reads : (s : List ℕ) (start : ℕ) {it : Record} → (scan_of s start).step ≡ Ok (N.Record it) → Reads s start (squeezed s start)
 unfolding squeezed squeezed_from first_of
@@ -108,5 +110,7 @@ squeezed_reads s start {it} e =
       landed = both refl refl refl (landed_behind s to r rs it.index ri.1);
       no_fillers = no_fillers_laid _ _;
       small = λ x. grind (arith, common_steps, lands_within s (r ∷ rs) it.index it.index x ri w (omega arith) (omega arith), y);
+      wholes = w;
+      left = ap (drop it.index) is ∙ drop_at (take it.index s) _ it.index front;
       before = ap (take start) is ∙ take-append-le start (take it.index s) _ (omega arith) ∙ take-take start it.index s (omega arith);
     }

@@ -21,10 +21,17 @@ use Rattle.squeezing.specs.Squeeze.{lands_from, first_in, first_of, row, moved_l
 use Rattle.squeezing.specs.Squeezes.{Squeezes}
 use Rattle.squeezing.proofs.Squeezed.{Reads, squeezed_reads}
 use Rattle.squeezing.proofs.Kept.{IsNamed, same_record, each_moves, each_kept}
+use Rattle.squeezing.proofs.Twice.{nexts_named, squeezed_again}
+
+-- a stream that squeezes to itself does so where it has its own room
+own_room : (t : List ℕ) (start : ℕ) {n : Counts} → check_of t start ≡ Ok n →
+    nexts_of (lands_from (first_of t start) (read_of t start).recs) (read_of t start).recs ≡ Ok tt → squeezed t start ≡ t → squeeze_of t start (length t) ≡ Ok (length t)
+unfolding squeeze_of
+own_room t start ok nexts is = grind (arith, common_steps, ok, nexts, is)
 
 -- a stream that yields no record is copied whole
 copied_squeezes : (s : List ℕ) (start : ℕ) {n : Counts} → check_of s start ≡ Ok n → (read_of s start).recs ≡ [] → Squeezes s start (squeezed s start)
-unfolding squeezed squeezed_from first_of row
+unfolding squeezed squeezed_from first_of row nexts_of
 copied_squeezes s start ok none =
     let whole : squeezed s start ≡ s = (λ i. squeezed_from s (first_in s (none i)) (none i)) ∙ append-nil (take (length s) s) ∙ take_all (length s) s (omega arith) in
     rw whole
@@ -33,6 +40,8 @@ copied_squeezes s start ok none =
       records = rw none tt;
       no_fillers = rw none tt;
       before = refl;
+      again = own_room s start ok (rw none refl) whole;
+      same = whole;
     })
 
 reads_squeezes : (s : List ℕ) (start : ℕ) {n : Counts} (t : List ℕ) → check_of s start ≡ Ok n →
@@ -45,11 +54,16 @@ reads_squeezes s start t ok nexts q =
     let m = each_moves to q.small start q.landed ri (λ x l. refl) in
     let moved : Nests (q.first ∷ q.others) [] = nests_moved (moved_link to) refl m.0 nest in
     let named = each_named (IsNamed to) nest m.1 refl in
+    let named_nexts : nexts_of to (q.r ∷ q.rs) ≡ Ok tt = rw q.records at nexts in
+    let passes = nests_good t start (rw q.read (record { at_end = refl; nests = moved })) in
+    let same = squeezed_again s start t q named named_nexts in
     record {
-      passes = rw (nests_good t start (rw q.read (record { at_end = refl; nests = moved })));
-      records = rw (q.records, q.read) (each_kept to q.small _ _ (λ x y. same_record x y q.landed) q.landed named (rw q.records at nexts));
+      passes = rw passes;
+      records = rw (q.records, q.read) (each_kept to q.small _ _ (λ x y. same_record x y q.landed) q.landed named named_nexts);
       no_fillers = rw q.read (q.no_fillers, refl);
       before = q.before;
+      again = own_room t start passes (nexts_named s start t q named named_nexts) same;
+      same = same;
     }
 
 pub squeezed_squeezes : (s : List ℕ) (start : ℕ) {n : Counts} → check_of s start ≡ Ok n →

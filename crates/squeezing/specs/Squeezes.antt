@@ -1,6 +1,6 @@
 -- What squeezing leaves (document 02, M-103): "The result passes the check from the same start, yields the same records in order but for
 -- moved links, and has no filler after the first record." "Bytes before the start are copied."
-use Rattle.std.specs.Prelude.{ℕ, ◌≡◌, ◌⊎◌, List, [], ◌∷◌, take, Some, IsOk}
+use Rattle.std.specs.Prelude.{ℕ, ◌≡◌, ◌⊎◌, List, [], ◌∷◌, length, take, Some, Ok, IsOk}
 use Rattle.constants.specs.Raw.{nesting_role_of}
 use Rattle.constants.specs.declared.Role.{Role}
 use Rattle.constants.specs.declared.Role.TheVariants.{Neither, Opens, Closes}
@@ -8,6 +8,7 @@ use Rattle.iter.specs.Reading.{Rec, Last, read_of}
 use Rattle.links.specs.Links.{links_of, with_links}
 use Rattle.links.specs.declared.Links.{Links}
 use Rattle.check_nesting.specs.Check.{check_of}
+use Rattle.squeezing.specs.Squeeze.{squeezed, squeeze_of}
 
 -- The records of the stream are rs, those of the result ts. One of rs at x is the one of ts at y: they have the same place in their rows.
 abbrev pub SameRecord : List Rec → List Rec → ℕ → ℕ → Type 0
@@ -57,3 +58,6 @@ pub record Squeezes (s : List ℕ) (start : ℕ) (t : List ℕ) : Type 0 where
   pub records : EachKept (read_of s start).recs (read_of t start).recs (read_of s start).recs (read_of t start).recs
   pub no_fillers : NoFillersBehind (read_of t start).recs (read_of t start).last
   pub before : take start t ≡ take start s
+  -- and squeezing it again changes nothing more
+  pub again : squeeze_of t start (length t) ≡ Ok (length t)
+  pub same : squeezed t start ≡ t
