@@ -1,6 +1,6 @@
 -- Squeezing a squeezed stream changes nothing more: each record lands where it is, and its links stay.
 -- Assumes nothing.
-use Rattle.std.proofs.Common.{ℕ, ◌+◌, ◌≤◌, ◌<◌, ◌^◌, ◌≡◌, refl, sym, ap, ◌∙◌, arith, List, [], ◌∷◌, ◌++◌, length, take, drop, append_assoc, take_at, Option, Some, Ok}
+use Rattle.std.proofs.Common.{ℕ, ◌+◌, ◌≤◌, ◌<◌, ◌^◌, ◌≡◌, refl, sym, ap, ◌∙◌, arith, List, [], ◌∷◌, ◌++◌, length, take, drop, append_assoc, take_at, Option, None, Some, Ok}
 use Rattle.std.proofs.lemmas.Grind.{common_steps}
 use Rattle.std.proofs.lemmas.List.{take-append-drop}
 use Rattle.constants.specs.Raw.{nesting_role_of}
@@ -13,7 +13,7 @@ use Rattle.links.specs.Links.{with_links}
 use Rattle.links.proofs.Relinked.{with_links_again}
 use Rattle.check_nesting.specs.Check.{size}
 use Rattle.check_nesting.proofs.Moving.{Named, EachNamed}
-use Rattle.squeezing.specs.Squeeze.{lands_from, moved_link, moved_links, record_links, moved, next_by, nexts_of, row, first_of, squeezed_from, squeezed}
+use Rattle.squeezing.specs.Squeeze.{lands_from, moved_link, moved_links, links_by_role, record_links, moved_by, moved, next_by, nexts_of, row, first_of, squeezed_from, squeezed}
 use Rattle.squeezing.proofs.Moved.{record_links_is, moved_is, moved_role, moved_length, moved_opener, links_moved}
 use Rattle.squeezing.proofs.Squeezed.{pieces, sound, Landed, none, both, Reads}
 use Rattle.squeezing.proofs.Kept.{IsNamed}
@@ -43,6 +43,11 @@ module _ (to again : ℕ → Option ℕ) (small : (x : ℕ) → moved_link to x 
   record_stays : (bytes : List ℕ) → (nesting_role_of bytes ≡ Opens → Named (IsNamed to) bytes) → IsNamed to (next_by (record_links bytes)) → Stays (moved to bytes)
   record_stays bytes opener next = by (nesting_role_of bytes) refl
     where
+      unlinked : {ro : Role} → nesting_role_of bytes ≡ ro → links_by_role ro bytes ≡ None → Stays (moved to bytes)
+      unlinked o u =
+          let still : (to : ℕ → Option ℕ) → moved to bytes ≡ bytes = λ to. moved_is to bytes o ∙ ap (moved_by to bytes) u in
+          rw (still to) (record { bytes_stay = still again; next_named = rw (record_links_is bytes o, u) refl })
+
       by : (ro : Role) → nesting_role_of bytes ≡ ro → Stays (moved to bytes)
       by Opens o =
           let n = opener o in
@@ -59,8 +64,8 @@ module _ (to again : ℕ → Option ℕ) (small : (x : ℕ) → moved_link to x 
                 ∙ sym (moved_opener to bytes o n.read);
             next_named = rw (record_links_is (moved to bytes) opens, read) x.0;
           }
-      by Closes o = rw (moved_is to bytes o) (record { bytes_stay = moved_is again bytes o; next_named = rw (record_links_is bytes o) refl })
-      by Neither o = rw (moved_is to bytes o) (record { bytes_stay = moved_is again bytes o; next_named = rw (record_links_is bytes o) refl })
+      by Closes o = unlinked o refl
+      by Neither o = unlinked o refl
 
   abbrev EachStays : List Rec → Type 0
   EachStays [] = Unit
