@@ -5,16 +5,10 @@ use std::io::{self, Read, Write};
 
 /// Lists the case that the input goes on with, and answers whether there was one.
 fn list_case<R: Read>(rt: &HostRuntime, reader: &mut R, number: u64) -> io::Result<bool> {
-    let mut length = [0u8; 4];
-    if input::read_full(reader, &mut length)? < 4 {
-        return Ok(false);
-    }
-    let len = u32::from_le_bytes(length) as usize;
     let mut stream = listing::stream_room();
-    if stream.len() < len {
+    let Some(n) = input::read_case(reader, &mut stream)? else {
         return Ok(false);
-    }
-    let n = input::read_full(reader, &mut stream[..len])?;
+    };
     println!(rt; "case {number}")?;
     let mut text = [0u8; listing::TEXT_ROOM];
     let written = listing::put_listing(&stream[..n], &mut text);

@@ -28,7 +28,7 @@ pub const TEXT_ROOM: usize = 13 * MAX_LISTED;
 
 /// Room for a stream, and for the byte that makes it too long. (The `ensures` gives only the length, which lending it as a slice needs.)
 pub fn stream_room() -> [u8; MAX_LISTED + 1]
-    ensures { 65537 ≡ length result }
+    ensures { max_listed + 1 ≡ length result }
 {
     [0; MAX_LISTED + 1]
 }

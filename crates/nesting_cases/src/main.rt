@@ -10,8 +10,8 @@ use common::Refusal;
 use common::number::Number;
 use std::io::{self, Read};
 
-/// How many bytes stand before a stream.
-const HEAD: usize = 9;
+/// How many bytes stand before the length of a stream.
+const HEAD: usize = 5;
 
 /// How long a stream may be.
 const ROOM: usize = 8192;
@@ -72,12 +72,10 @@ fn answer_case<R: Read>(rt: &HostRuntime, reader: &mut R) -> io::Result<bool> {
         return Ok(false);
     }
     let i = u32::at(&head, 1) as usize;
-    let len = u32::at(&head, 5) as usize;
     let mut stream = [0u8; ROOM];
-    if ROOM < len {
+    let Some(n) = input::read_case(reader, &mut stream)? else {
         return Ok(false);
-    }
-    let n = input::read_full(reader, &mut stream[..len])?;
+    };
     answer(rt, head[0], i, &stream[..n])?;
     Ok(true)
 }

@@ -26,16 +26,10 @@ fn print_bytes(rt: &HostRuntime, bytes: &[u8]) -> io::Result<()> {
 
 /// Squeezes the case that the input goes on with, and answers whether there was one.
 fn squeeze_case<R: Read>(rt: &HostRuntime, reader: &mut R, number: u64) -> io::Result<bool> {
-    let mut length = [0u8; 4];
-    if input::read_full(reader, &mut length)? < 4 {
-        return Ok(false);
-    }
-    let len = u32::from_le_bytes(length) as usize;
     let mut stream = listing::stream_room();
-    if stream.len() < len {
+    let Some(n) = input::read_case(reader, &mut stream)? else {
         return Ok(false);
-    }
-    let n = input::read_full(reader, &mut stream[..len])?;
+    };
     println!(rt; "case {number}")?;
     let mut buffer = [0u8; listing::MAX_LISTED];
     match squeeze_listed::squeeze_listed(&stream[..n], &mut buffer) {

@@ -82,24 +82,24 @@ pub first_lands : (s : List ℕ) (first : ℕ) → Lands s first (record { at = 
 first_lands s first = record { low = omega arith; later = λ i l. refl }
 
 -- a record that is found lands at no later position, and reading on from it finds the later ones where reading on from earlier does
-record Found (s : List ℕ) (at to : ℕ) (rs : List Rec) (i p : ℕ) : Type 0 where
+record FoundLanding (s : List ℕ) (at to : ℕ) (rs : List Rec) (i p : ℕ) : Type 0 where
   behind : at ≤ i
   low : p ≤ i
   later : (x : ℕ) → i ≤ x → lands_from p (read_of s i).recs x ≡ lands_from to rs x
 
-found : (s : List ℕ) (at : ℕ) → (to i p : ℕ) → to ≤ at → lands_from to (read_of s at).recs i ≡ Some p → Found s at to (read_of s at).recs i p
+found : (s : List ℕ) (at : ℕ) → (to i p : ℕ) → to ≤ at → lands_from to (read_of s at).recs i ≡ Some p → FoundLanding s at to (read_of s at).recs i p
 unfolding lands_from
 found s =
-    read-ind s (λ at r. (to i p : ℕ) → to ≤ at → lands_from to r.recs i ≡ Some p → Found s at to r.recs i p)
+    read-ind s (λ at r. (to i p : ℕ) → to ≤ at → lands_from to r.recs i ≡ Some p → FoundLanding s at to r.recs i p)
     (λ at q e to i p l h. cc)
     (λ at x e to i p l h. cc)
     (λ at it e ih to i p l h.
     by at it e ih to i p l (eqb it.index i) refl (sym (lands_first s it (scan_of s at) (read_of s it.next).recs to i (bytes-length s at it e)) ∙ h))
   where
     by : (at : ℕ) (it : Record) → (scan_of s at).step ≡ Ok (N.Record it) →
-        ((to i p : ℕ) → to ≤ it.next → lands_from to (read_of s it.next).recs i ≡ Some p → Found s it.next to (read_of s it.next).recs i p) → (to i p : ℕ) → to ≤ at →
+        ((to i p : ℕ) → to ≤ it.next → lands_from to (read_of s it.next).recs i ≡ Some p → FoundLanding s it.next to (read_of s it.next).recs i p) → (to i p : ℕ) → to ≤ at →
         (b : Bool) → eqb it.index i ≡ b → cond b (Some to) (lands_from (to + 2 + it.len) (read_of s it.next).recs i) ≡ Some p →
-        Found s at to (rec_at s (scan_of s at) it ∷ (read_of s it.next).recs) i p
+        FoundLanding s at to (rec_at s (scan_of s at) it ∷ (read_of s it.next).recs) i p
     by at it e ih to i p l true q h =
         let here : it.index ≡ i = eqb-true _ _ q in
         let is : to ≡ p = cc in

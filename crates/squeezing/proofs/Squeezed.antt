@@ -69,7 +69,7 @@ no_fillers_laid [] at = tt
 no_fillers_laid (f ∷ fs) at = (refl, no_fillers_laid fs (at + 2 + length f.body))
 
 -- The readings of a stream whose records are r and rs, and of the squeezed one.
-pub record Reads (s : List ℕ) (start : ℕ) (t : List ℕ) : Type 0 where
+pub record Readings (s : List ℕ) (start : ℕ) (t : List ℕ) : Type 0 where
   pub r : Rec
   pub rs : List Rec
   pub first : Rec
@@ -83,9 +83,9 @@ pub record Reads (s : List ℕ) (start : ℕ) (t : List ℕ) : Type 0 where
   pub wholes : Wholes s (r ∷ rs)
   pub left : drop r.index t ≡ R.row (pieces s (lands_from r.index (r ∷ rs)) (r ∷ rs))
 
-pub squeezed_reads : (s : List ℕ) (start : ℕ) {it : Record} → (scan_of s start).step ≡ Ok (N.Record it) → Reads s start (squeezed s start)
+pub squeezed_readings : (s : List ℕ) (start : ℕ) {it : Record} → (scan_of s start).step ≡ Ok (N.Record it) → Readings s start (squeezed s start)
 unfolding squeezed squeezed_from first_of
-squeezed_reads s start {it} e =
+squeezed_readings s start {it} e =
     let r = rec_at s (scan_of s start) it in
     let rs = (read_of s it.next).recs in
     let to = lands_from r.index (r ∷ rs) in

@@ -19,7 +19,7 @@ use Rattle.check_nesting.proofs.Nesting.{good_nests, nests_good}
 use Rattle.check_nesting.proofs.Moving.{each_named, nests_moved}
 use Rattle.squeezing.specs.Squeeze.{lands_from, first_in, first_of, row, moved_link, squeezed_from, squeezed, nexts_of, fitting, squeeze_of, buffer_by}
 use Rattle.squeezing.specs.Squeezes.{Squeezes}
-use Rattle.squeezing.proofs.Squeezed.{Reads, squeezed_reads}
+use Rattle.squeezing.proofs.Squeezed.{Readings, squeezed_readings}
 use Rattle.squeezing.proofs.Kept.{IsNamed, same_record, each_moves, each_kept}
 use Rattle.squeezing.proofs.Twice.{nexts_named, squeezed_again}
 
@@ -44,10 +44,10 @@ copied_squeezes s start ok none =
       same = whole;
     })
 
-reads_squeezes : (s : List ℕ) (start : ℕ) {n : Counts} (t : List ℕ) → check_of s start ≡ Ok n →
-    nexts_of (lands_from (first_of s start) (read_of s start).recs) (read_of s start).recs ≡ Ok tt → Reads s start t → Squeezes s start t
+readings_squeeze : (s : List ℕ) (start : ℕ) {n : Counts} (t : List ℕ) → check_of s start ≡ Ok n →
+    nexts_of (lands_from (first_of s start) (read_of s start).recs) (read_of s start).recs ≡ Ok tt → Readings s start t → Squeezes s start t
 unfolding first_of
-reads_squeezes s start t ok nexts q =
+readings_squeeze s start t ok nexts q =
     let to = lands_from q.r.index (q.r ∷ q.rs) in
     let nest : Nests (q.r ∷ q.rs) [] = rw q.records at (good_nests s start ok).nests in
     let ri : Rising start (q.r ∷ q.rs) = rw q.records at (rising s start) in
@@ -71,7 +71,7 @@ pub squeezed_squeezes : (s : List ℕ) (start : ℕ) {n : Counts} → check_of s
 squeezed_squeezes s start ok nexts = by (scan_of s start).step refl
   where
     by : (n : Result Next Refusal) → (scan_of s start).step ≡ n → Squeezes s start (squeezed s start)
-    by (Ok (N.Record it)) e = reads_squeezes s start (squeezed s start) ok nexts (squeezed_reads s start e)
+    by (Ok (N.Record it)) e = readings_squeeze s start (squeezed s start) ok nexts (squeezed_readings s start e)
     by (Ok (N.End p)) e = copied_squeezes s start ok (ap (λ (r : Reading). r.recs) (read_by s start (Ok (N.End p)) e))
     by (Err x) e = copied_squeezes s start ok (ap (λ (r : Reading). r.recs) (read_by s start (Err x) e))
 

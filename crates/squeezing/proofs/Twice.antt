@@ -15,7 +15,7 @@ use Rattle.check_nesting.specs.Check.{size}
 use Rattle.check_nesting.proofs.Moving.{Named, EachNamed}
 use Rattle.squeezing.specs.Squeeze.{lands_from, moved_link, moved_links, links_by_role, record_links, moved_by, moved, next_by, nexts_of, row, first_of, squeezed_from, squeezed}
 use Rattle.squeezing.proofs.Moved.{record_links_is, moved_is, moved_role, moved_length, moved_opener, links_moved}
-use Rattle.squeezing.proofs.Squeezed.{pieces, sound, Landed, none, both, Reads}
+use Rattle.squeezing.proofs.Squeezed.{pieces, sound, Landed, none, both, Readings}
 use Rattle.squeezing.proofs.Kept.{IsNamed}
 
 -- no record lands before the position from which on they are laid
@@ -98,7 +98,7 @@ module _ (to again : ℕ → Option ℕ) (small : (x : ℕ) → moved_link to x 
 landed_index : {to : ℕ → Option ℕ} {at : ℕ} {r t : Rec} {rs ts : List Rec} → Landed to at (r ∷ rs) (t ∷ ts) → t.index ≡ at
 landed_index (both i z b d) = i
 
-module _ (s : List ℕ) (start : ℕ) (t : List ℕ) (q : Reads s start t) where
+module _ (s : List ℕ) (start : ℕ) (t : List ℕ) (q : Readings s start t) where
   abbrev to : ℕ → Option ℕ
   to = lands_from q.r.index (q.r ∷ q.rs)
 
