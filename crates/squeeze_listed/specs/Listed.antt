@@ -6,5 +6,5 @@ use Rattle.listing.specs.Listing.{max_listed, listed_from}
 use Rattle.squeezing.specs.Squeeze.{squeeze_of}
 
 -- above 65,536 bytes `refused 5 0`, as the listing; else it squeezes from 4
-abbrev pub listed_squeeze : List ℕ → ℕ → Result ℕ Refusal
-listed_squeeze s room = cond (ltb max_listed (length s)) (Err TooLong) (squeeze_of s listed_from room)
+abbrev pub squeeze_listed_of : List ℕ → ℕ → Result ℕ Refusal
+squeeze_listed_of s room = cond (ltb max_listed (length s)) (Err TooLong) (squeeze_of s listed_from room)
