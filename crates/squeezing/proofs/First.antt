@@ -1,12 +1,12 @@
 -- Reading from the first record on gives what reading from the start gives, but for the fillers before it: the loops do what the squeeze is.
 -- Assumes nothing.
-use Rattle.std.proofs.Common.{ℕ, ◌+◌, ◌≤◌, ◌<◌, ◌≡◌, refl, sym, ap, ◌∙◌, subst, arith, List, [], ◌∷◌, length, length-append, length-drop, length-take-le, take, drop, Option, Result, Ok, Err}
+use Rattle.std.proofs.Common.{ℕ, ◌+◌, ◌-◌, ◌≤◌, ◌≡◌, refl, sym, ap, ◌∙◌, subst, arith, List, [], ◌∷◌, length, length-append, length-drop, length-take-le, take, drop, Option, Result, Ok, Err}
 use Rattle.std.specs.Prelude.{sum_by}
 use Rattle.std.specs.Result.{result_and}
 use Rattle.std.proofs.lemmas.Grind.{common_steps}
 use Rattle.std.proofs.lemmas.List.{drop_all}
+use Rattle.std.proofs.lemmas.List.Sums.{sum_by-cons}
 use Rattle.common.specs.declared.Refusal.{Refusal}
-use Rattle.common.specs.declared.Refusal.TheVariants.{NoRoom}
 use Rattle.iter.specs.Step.{scan_of}
 use Rattle.iter.specs.Reading.{Rec, Reading, ends, refuses, rec_at, read_of}
 use Rattle.iter.specs.declared.Scan.{Scan}
@@ -16,13 +16,17 @@ use Rattle.iter.proofs.Reading.{small, step_fits, again, read_by}
 use Rattle.iter.proofs.Rows.{Wholes, wholes, read_left}
 use Rattle.check_nesting.specs.declared.act.Open.{Open}
 use Rattle.check_nesting.specs.declared.Counts.{Counts}
-use Rattle.check_nesting.specs.Check.{size, check_of}
+use Rattle.check_nesting.specs.Check.{Verdict, size, counts_of, check_of}
 use Rattle.check_nesting.specs.Nesting.{Nests, passes, opens, closes, NestsIn}
-use Rattle.check_nesting.proofs.Nesting.{good_nests}
-use Rattle.squeezing.specs.Squeeze.{lands_from, first_in, first_of, row, nexts_of, fitting, squeezed_from, squeezed, squeeze_of}
+use Rattle.check_nesting.proofs.Nesting.{good_nests, nests_good}
+use Rattle.squeezing.specs.Squeeze.{lands_from, first_in, first_of, row, nexts_of, squeezed_from, squeezed, squeezable}
 use Rattle.squeezing.specs.Landing.{landing_at}
-use Rattle.squeezing.specs.Plan.{plan_of}
+use Rattle.squeezing.specs.declared.plan.Front.{Front}
+use Rattle.squeezing.specs.declared.plan.Planned.{Planned}
+use Rattle.squeezing.specs.Preview.{dropped_by, dropped}
+use Rattle.squeezing.specs.Plan.{front_of, squeezed_length, plan_of}
 use Rattle.squeezing.proofs.Moved.{moved_length}
+use Rattle.squeezing.proofs.Squeezable.{refused}
 
 -- a record, read from its own index
 abbrev bare : Rec → Rec
@@ -69,18 +73,22 @@ nests_bare (passes {r = r} n d) = passes {r = bare r} n d
 nests_bare (opens {r = r} n e z p m d) = opens {r = bare r} n e z p m d
 nests_bare (closes {r = r} n e d) = closes {r = bare r} n e d
 
--- what the squeeze is, by what the plan says
-abbrev on_plan : Result ℕ Refusal → ℕ → Result ℕ Refusal
-on_plan (Ok n) room = fitting n room
-on_plan (Err e) room = Err e
+-- the fillers of a stream are those that the first step passes over, and those that squeezing drops
+pub fillers_are : (s : List ℕ) (start : ℕ) → (counts_of (read_of s start)).fillers ≡ (scan_of s start).fillers + dropped s start
+unfolding counts_of dropped
+fillers_are s start = by (scan_of s start).step refl
+  where
+    total : Reading → ℕ
+    total r = sum_by (λ q. q.fillers) r.recs + r.last.fillers
 
-planned : (nexts : Result Unit Refusal) (n room : ℕ) → result_and nexts (fitting n room) ≡ on_plan (result_and nexts (Ok n)) room
-planned (Ok u) n room = refl
-planned (Err e) n room = refl
+    by : (n : Result Next Refusal) → (scan_of s start).step ≡ n → total (read_of s start) ≡ (scan_of s start).fillers + dropped_by (read_of s start).recs (read_of s start).last
+    by (Ok (N.Record it)) e = rw (read_by s start (Ok (N.Record it)) e) (omega (arith, sum_by-cons (λ q. q.fillers) (rec_at s (scan_of s start) it) (read_of s it.next).recs))
+    by (Ok (N.End p)) e = rw (read_by s start (Ok (N.End p)) e) (omega arith)
+    by (Err x) e = rw (read_by s start (Err x) e) (omega arith)
 
-pub squeeze_refused : (s : List ℕ) (start room : ℕ) {e : Refusal} → check_of s start ≡ Err e → squeeze_of s start room ≡ Err e
-unfolding squeeze_of
-squeeze_refused s start room ok = rw ok refl
+pub check_refused : (s : List ℕ) (start : ℕ) {e : Refusal} → Err e ≡ check_of s start → Err e ≡ plan_of s start
+unfolding plan_of squeezable
+check_refused s start p = rw (sym p) refl
 
 module _ (s : List ℕ) (start : ℕ) {c : Counts} (ok : check_of s start ≡ Ok c) where
   nesting : NestsIn (read_of s start).last.ending (read_of s start).recs []
@@ -123,16 +131,22 @@ module _ (s : List ℕ) (start : ℕ) {c : Counts} (ok : check_of s start ≡ Ok
       let rs = (read_of s (first_of s start)).recs in
       omega (arith, length-append (take (first_of s start) s) (row s to rs), length-take-le (first_of s start) s first_within, row_length s to rs (wholes s (first_of s start)))
 
-  plan_is : plan_of s (first_of s start) ≡ result_and (nexts_of (lands_from (first_of s start) (read_of s start).recs) (read_of s start).recs) (Ok (length (squeezed s start)))
-  unfolding plan_of
-  plan_is = let long = length_is ∙ ap length squeezed_is in λ i. result_and (nexts_are i) (Ok (long i))
+  -- and find each of them where it lands
+  lands_are : (i : ℕ) → landing_at s (first_of s start) i ≡ lands_from (first_of s start) (read_of s start).recs i
+  unfolding lands_from
+  lands_are i = same_rows (λ rs. lands_from (first_of s start) rs i ≡ lands_from (first_of s start) (read_of s start).recs i) (λ r rs e. e) refl
 
-  squeeze_is : (room : ℕ) → squeeze_of s start room ≡ on_plan (plan_of s (first_of s start)) room
-  unfolding squeeze_of
-  squeeze_is room =
-      ap (λ r. result_and r (result_and (nexts_of (lands_from (first_of s start) (read_of s start).recs) (read_of s start).recs) (fitting (length (squeezed s start)) room))) ok
-      ∙ planned (nexts_of (lands_from (first_of s start) (read_of s start).recs) (read_of s start).recs) (length (squeezed s start)) room
-      ∙ ap (λ p. on_plan p room) (sym plan_is)
+  -- the plan's length is that of the squeezed stream
+  planned_length : squeezed_length s (first_of s start) ≡ result_and (squeezable s start) (Ok (length (squeezed s start)))
+  unfolding squeezed_length squeezable
+  planned_length = let long = length_is ∙ ap length squeezed_is in (λ i. result_and (nexts_are i) (Ok (long i))) ∙ rw ok refl
+
+  -- the check's fillers are those in front, and those that are dropped
+  check_counts : c ≡ counts_of (read_of s start)
+  check_counts = let e : ◌≡◌ {A = Result Counts Refusal} (Ok c) (Ok (counts_of (read_of s start))) = sym ok ∙ nests_good s start nesting in cc
+
+  check_fillers : c.fillers ≡ (scan_of s start).fillers + dropped s start
+  check_fillers = ap (λ (n : Counts). n.fillers) check_counts ∙ fillers_are s start
 
   -- the same, as the calls say it, of the first record that was found
   module _ {at : ℕ} (f : at ≡ first_of s start) where
@@ -145,22 +159,40 @@ module _ (s : List ℕ) (start : ℕ) {c : Counts} (ok : check_of s start ≡ Ok
     pub written : squeezed_from s at (read_of s at).recs ≡ squeezed s start
     written = ap (λ n. squeezed_from s n (read_of s n).recs) f ∙ squeezed_is
 
-    pub plan_refused : (room : ℕ) {e : Refusal} → Err e ≡ plan_of s at → Err e ≡ squeeze_of s start room
-    plan_refused room p = ap (λ r. on_plan r room) (p ∙ ap (plan_of s) f) ∙ sym (squeeze_is room)
+    pub found : (i : ℕ) → lands_from at (read_of s at).recs i ≡ lands_from (first_of s start) (read_of s start).recs i
+    found i = ap (λ n. landing_at s n i) f ∙ lands_are i
 
-    module _ {n : ℕ} (p : Ok n ≡ plan_of s at) where
-      plan_fits : (room : ℕ) → fitting n room ≡ squeeze_of s start room
-      plan_fits room = ap (λ r. on_plan r room) (p ∙ ap (plan_of s) f) ∙ sym (squeeze_is room)
+  -- and of the front
+  module _ {front : Front} (f : front ≡ front_of s start) where
+    front_first : front.first ≡ first_of s start
+    unfolding front_of
+    front_first = ap (λ (x : Front). x.first) f
 
-      pub too_long : {room : ℕ} → room < n → Err NoRoom ≡ squeeze_of s start room
-      too_long {room} l = grind (arith, common_steps, plan_fits room)
+    front_fillers : front.fillers ≡ (scan_of s start).fillers
+    unfolding front_of
+    front_fillers = ap (λ (x : Front). x.fillers) f
 
-      pub fits : {room : ℕ} → n ≤ room → Ok n ≡ squeeze_of s start room
-      fits {room} l = grind (arith, common_steps, plan_fits room)
+    pub front_nests : Nests (read_of s front.first).recs []
+    front_nests = nests front_first
 
-      pub plan_length : n ≡ length (squeezed_from s at (read_of s at).recs)
-      plan_length = by (nexts_of (lands_from (first_of s start) (read_of s start).recs) (read_of s start).recs) (p ∙ ap (plan_of s) f ∙ plan_is) ∙ sym (ap length written)
-        where
-          by : (nexts : Result Unit Refusal) → Ok n ≡ result_and nexts (Ok (length (squeezed s start))) → n ≡ length (squeezed s start)
-          by (Ok u) q = cc
-          by (Err e) q = cc
+    pub fewer_in_front : front.fillers ≤ c.fillers
+    fewer_in_front = omega (arith, front_fillers, check_fillers)
+
+    planned_by : (r : Result ℕ Refusal) → r ≡ squeezed_length s front.first → r ≡ result_and (squeezable s start) (Ok (length (squeezed s start)))
+    planned_by r p = p ∙ ap (squeezed_length s) front_first ∙ planned_length
+
+    pub plan_refused : {e : Refusal} → Err e ≡ squeezed_length s front.first → Err e ≡ plan_of s start
+    unfolding plan_of
+    plan_refused {e} p = refused (squeezable s start) _ _ (planned_by (Err e) p)
+
+    pub plan_is : {n : ℕ} → Ok n ≡ squeezed_length s front.first → Ok (record { first = front.first; length = n; dropped = c.fillers - front.fillers }) ≡ plan_of s start
+    unfolding plan_of
+    plan_is {n} p =
+        let left : c.fillers - front.fillers ≡ dropped s start = omega (arith, front_fillers, check_fillers) in
+        by left (squeezable s start) (planned_by (Ok n) p)
+      where
+        by : c.fillers - front.fillers ≡ dropped s start → (v : Verdict) → Ok n ≡ result_and v (Ok (length (squeezed s start))) →
+            ◌≡◌ {A = Result Planned Refusal} (Ok (record { first = front.first; length = n; dropped = c.fillers - front.fillers }))
+            (result_and v (Ok (record { first = first_of s start; length = length (squeezed s start); dropped = dropped s start })))
+        by left (Ok u) q = let long : n ≡ length (squeezed s start) = cc in λ i. Ok (record { first = front_first i; length = long i; dropped = left i })
+        by left (Err x) q = cc

@@ -14,7 +14,7 @@ use Rattle.iter.specs.declared.Next.TheVariants as N
 use Rattle.iter.proofs.Reading.{step_fits, again, read_by}
 use Rattle.iter.proofs.Rows.{Wholes}
 use Rattle.iter.proofs.Records.{read-ind, Rising, rising, bytes-length}
-use Rattle.squeezing.specs.Squeeze.{lands_from, first_of}
+use Rattle.squeezing.specs.Squeeze.{lands_from}
 use Rattle.squeezing.specs.Landing.{Lands, landing_at}
 use Rattle.squeezing.specs.declared.landing.Landing.{Landing}
 
@@ -136,17 +136,3 @@ module _ {s : List ℕ} {first : ℕ} {here : Landing} (g : Lands s first here) 
             let other : ¬ (it.index ≡ i) = λ z. omega (arith, step_fits s here.at it e) in
             sym (rw (ne_eqb it.index i other) at (lands_by s here it e i)) ∙ g.later i (omega (arith, step_fits s here.at it e));
       }
-
--- where the first record begins, by what the first step says
-module _ (s : List ℕ) (start : ℕ) where
-  pub first_at_record : {it : Record} → (scan_of s start).step ≡ Ok (N.Record it) → it.index ≡ first_of s start
-  unfolding first_of
-  first_at_record {it} e = rw (read_by s start (Ok (N.Record it)) e) refl
-
-  pub first_at_end : {p : ℕ} → (scan_of s start).step ≡ Ok (N.End p) → length s ≡ first_of s start
-  unfolding first_of
-  first_at_end {p} e = rw (read_by s start (Ok (N.End p)) e) refl
-
-  pub first_at_refusal : {x : Refusal} → (scan_of s start).step ≡ Err x → length s ≡ first_of s start
-  unfolding first_of
-  first_at_refusal {x} e = rw (read_by s start (Err x) e) refl

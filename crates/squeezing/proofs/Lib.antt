@@ -6,4 +6,7 @@ pub mod Squeezed
 pub mod Kept
 pub mod Squeezes
 pub mod First
+pub mod Squeezable
+pub mod Planned
+pub mod Foretold
 pub mod Twice

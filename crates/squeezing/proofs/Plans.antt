@@ -25,10 +25,10 @@ use Rattle.check_nesting.specs.Check.{size}
 use Rattle.check_nesting.specs.Nesting.{Nests}
 use Rattle.check_nesting.proofs.Heads.{read_nests, head_read, rest_nests}
 use Rattle.squeezing.specs.declared.landing.Landing.{Landing}
-use Rattle.squeezing.specs.Squeeze.{links_by_role, record_links, next_by, nexts_of}
+use Rattle.squeezing.specs.Squeeze.{first_of, links_by_role, record_links, next_by, nexts_of}
 use Rattle.squeezing.specs.Landing.{landing_at, Lands}
 use Rattle.squeezing.proofs.Landings.{first_lands, behind_fits}
-use Rattle.squeezing.specs.Plan.{plan_of, Readable}
+use Rattle.squeezing.specs.Plan.{squeezed_length, Readable}
 
 -- what links_of answers of a readable opener
 read_links : (bytes : List ℕ) → Readable bytes → nesting_role_of bytes ≡ Opens → (l : Links) × (links_of bytes ≡ Some l)
@@ -59,6 +59,20 @@ next_of_other bytes k {ro} e n = rw (sym k, sym e) (by ro n)
     by Closes n = refl
     by Neither n = refl
 
+-- where the first record begins, by what the first step says
+module _ (s : List ℕ) (start : ℕ) where
+  pub first_at_record : {it : Record} → (scan_of s start).step ≡ Ok (N.Record it) → it.index ≡ first_of s start
+  unfolding first_of
+  first_at_record {it} e = rw (read_by s start (Ok (N.Record it)) e) refl
+
+  pub first_at_end : {p : ℕ} → (scan_of s start).step ≡ Ok (N.End p) → length s ≡ first_of s start
+  unfolding first_of
+  first_at_end {p} e = rw (read_by s start (Ok (N.End p)) e) refl
+
+  pub first_at_refusal : {x : Refusal} → (scan_of s start).step ≡ Err x → length s ≡ first_of s start
+  unfolding first_of
+  first_at_refusal {x} e = rw (read_by s start (Err x) e) refl
+
 -- what is left of the plan, with a record in front
 abbrev pub plan_left : List ℕ → ℕ → Landing → Result ℕ Refusal
 plan_left s first here = result_and (nexts_of (landing_at s first) (read_of s here.at).recs) (Ok (here.to + sum_by size (read_of s here.at).recs))
@@ -69,24 +83,24 @@ pub record Planning (s : List ℕ) (first : ℕ) (here known : Landing) : Type 0
   pub known_lands : Lands s first known
   pub st : List Open
   pub nests : Nests (read_of s here.at).recs st
-  pub left : plan_left s first here ≡ plan_of s first
+  pub left : plan_left s first here ≡ squeezed_length s first
 
 pub planning_first : (s : List ℕ) (first : ℕ) → Nests (read_of s first).recs [] → Planning s first (record { at = first; to = first }) (record { at = first; to = first })
-unfolding plan_of
+unfolding squeezed_length
 planning_first s first h = record { here_lands = omega arith; known_lands = first_lands s first; st = []; nests = h; left = refl }
 
 module _ {s : List ℕ} {first : ℕ} {here known : Landing} (g : Planning s first here known) where
   -- nothing is left
-  ended : (read_of s here.at).recs ≡ [] → Ok here.to ≡ plan_of s first
+  ended : (read_of s here.at).recs ≡ [] → Ok here.to ≡ squeezed_length s first
   unfolding nexts_of
   ended none =
       let zero : here.to + 0 ≡ here.to = omega arith in
       rw (none, zero) at g.left
 
-  pub at_end : {p : ℕ} → (scan_of s here.at).step ≡ Ok (N.End p) → Ok here.to ≡ plan_of s first
+  pub at_end : {p : ℕ} → (scan_of s here.at).step ≡ Ok (N.End p) → Ok here.to ≡ squeezed_length s first
   at_end {p} e = ended (ap (λ (r : Reading). r.recs) (read_by s here.at (Ok (N.End p)) e))
 
-  pub at_refused : {x : Refusal} → (scan_of s here.at).step ≡ Err x → Ok here.to ≡ plan_of s first
+  pub at_refused : {x : Refusal} → (scan_of s here.at).step ≡ Err x → Ok here.to ≡ squeezed_length s first
   at_refused {x} e = ended (ap (λ (r : Reading). r.recs) (read_by s here.at (Err x) e))
 
   module _ {it : Record} (e : (scan_of s here.at).step ≡ Ok (N.Record it)) where
@@ -97,7 +111,7 @@ module _ {s : List ℕ} {first : ℕ} {here known : Landing} (g : Planning s fir
     readable_here = head_read nests_here
 
     module _ {next : ℕ} (n : next ≡ next_by (record_links (bytes_at s it))) where
-      pub at_wrong : (eqb next 0 || is_some (landing_at s first next)) ≡ false → Err (WrongNext it.index) ≡ plan_of s first
+      pub at_wrong : (eqb next 0 || is_some (landing_at s first next)) ≡ false → Err (WrongNext it.index) ≡ squeezed_length s first
       unfolding nexts_of
       at_wrong w = rw (read_by s here.at (Ok (N.Record it)) e, sym n, w) at g.left
 

@@ -77,6 +77,7 @@ pub record Readings (s : List ℕ) (start : ℕ) (t : List ℕ) : Type 0 where
   pub records : (read_of s start).recs ≡ r ∷ rs
   pub read : read_of t start ≡ to_end (first ∷ others)
   pub landed : Landed (lands_from r.index (r ∷ rs)) r.index (r ∷ rs) (first ∷ others)
+  pub front : first.fillers ≡ (scan_of s start).fillers
   pub no_fillers : NoFillers others
   pub small : (x : ℕ) → moved_link (lands_from r.index (r ∷ rs)) x < 2 ^ 32
   pub before : take start t ≡ take start s
@@ -108,6 +109,7 @@ squeezed_readings s start {it} e =
           (moved_length to r.bytes ∙ bytes-length s start it e)
           (omega (arith, y, long));
       landed = both refl refl refl (landed_behind s to r rs it.index ri.1);
+      front = refl;
       no_fillers = no_fillers_laid _ _;
       small = λ x. grind (arith, common_steps, lands_within s (r ∷ rs) it.index it.index x ri w (omega arith) (omega arith), y);
       wholes = w;

@@ -10,7 +10,7 @@ use Rattle.constants.specs.declared.Role.TheVariants.{Neither, Opens, Closes}
 use Rattle.iter.specs.Reading.{Rec, read_of}
 use Rattle.links.specs.Links.{links_of, with_links}
 use Rattle.links.specs.declared.Links.{Links}
-use Rattle.check_nesting.specs.Check.{size, check_of}
+use Rattle.check_nesting.specs.Check.{Verdict, size, check_of}
 
 -- Where the record of index i lands, where these records are laid one behind the other from a position on; none where none has that index.
 unfoldable pub lands_from : ℕ → List Rec → ℕ → Option ℕ
@@ -68,22 +68,23 @@ next_by (Some l) = l.next
 next_by None = 0
 
 -- "17 for a nonzero next that names no yielded record, at its opener (.. of several the first in the stream)"
-unfoldable pub nexts_of : (ℕ → Option ℕ) → List Rec → Result Unit Refusal
+unfoldable pub nexts_of : (ℕ → Option ℕ) → List Rec → Verdict
 nexts_of to [] = Ok tt
 nexts_of to (r ∷ rs) =
     let next = next_by (record_links r.bytes) in
     cond (eqb next 0 || is_some (to next)) (nexts_of to rs) (Err (WrongNext r.index))
 
+-- "Checks: after the check's own, 17": whether a stream can be squeezed, if there is room
+unfoldable pub squeezable : List ℕ → ℕ → Verdict
+squeezable s start = result_and (check_of s start) (nexts_of (lands_from (first_of s start) (read_of s start).recs) (read_of s start).recs)
+
 -- "then 18 if the buffer is too short"
 abbrev pub fitting : ℕ → ℕ → Result ℕ Refusal
 fitting n room = cond (ltb room n) (Err NoRoom) (Ok n)
 
--- "Checks: after the check's own, 17 .. then 18"; "the answer is the length written"
+-- "the answer is the length written"
 unfoldable pub squeeze_of : List ℕ → ℕ → ℕ → Result ℕ Refusal
-squeeze_of s start room =
-    result_and (check_of s start)
-    (result_and (nexts_of (lands_from (first_of s start) (read_of s start).recs) (read_of s start).recs)
-    (fitting (length (squeezed s start)) room))
+squeeze_of s start room = result_and (squeezable s start) (fitting (length (squeezed s start)) room)
 
 -- "Bytes beyond it, or all after a refusal, keep their values": what the buffer holds after the call
 abbrev pub buffer_by : Result ℕ Refusal → List ℕ → List ℕ → List ℕ

@@ -3,7 +3,7 @@
 
 ghost use Rattle.std.specs.Prelude.{◌≡◌, ◌≤◌, ◌+◌};
 ghost use Rattle.iter.specs.Reading.{read_of};
-ghost use Rattle.squeezing.specs.Squeeze.{lands_from, first_of};
+ghost use Rattle.squeezing.specs.Squeeze.{lands_from};
 ghost use Rattle.squeezing.specs.Landing.{Lands, landing_at};
 
 use iter::{Next, Record};
@@ -80,15 +80,4 @@ pub fn landing_of(s: &[u8], first: usize, known: &mut Landing, i: usize) -> Opti
     let to = landing_from(s, from, i)?;
     *known = Landing { at: i, to };
     Some(to)
-}
-
-/// Where the first record begins, or the end of the stream where there is none.
-pub fn first_index(s: &[u8], start: usize) -> usize
-    ensures { result ≡ first_of s.now start }
-{
-    match iter::step(s, start) {
-        Ok(Next::Record(r)) => r.index,
-        Ok(Next::End(_)) => s.len(),
-        Err(_) => s.len(),
-    }
 }

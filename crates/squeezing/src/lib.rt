@@ -1,18 +1,19 @@
-// Squeezing out filler: a stream written anew without its fillers, save those before the first record. Two passes over the records: one
-// finds the length and looks at the nexts, one writes.
+// Squeezing out filler: a stream written anew without its fillers, save those before the first record; and what that would give, without
+// writing. Two passes over the records: one plans, one writes.
 #![tactic(auto)]
 
-pub mod landing;
+mod landing;
+mod plan;
 
-ghost use Rattle.std.specs.Prelude.{◌≡◌, ◌≤◌, ◌<◌, ◌+◌, true, ◌||◌, eqb, is_some, List, [], reverse, length, take, IfOk};
+ghost use Rattle.std.specs.Prelude.{◌≡◌, ◌≤◌, [], reverse, length, take, IfOk};
 ghost use Rattle.common.specs.Bytes.{put};
-ghost use Rattle.constants.specs.Raw.{raw_kind};
 ghost use Rattle.iter.specs.Reading.{read_of};
 ghost use Rattle.check_nesting.specs.Nesting.{Nests};
-ghost use Rattle.squeezing.specs.Squeeze.{moved_link, record_links, next_by, squeezed_from, squeezed, squeeze_of, buffer_by};
+ghost use Rattle.squeezing.specs.Squeeze.{moved_link, squeezed_from, squeezed, squeeze_of, buffer_by};
 ghost use Rattle.squeezing.specs.Squeezes.{Squeezes};
+ghost use Rattle.squeezing.specs.Preview.{preview_of};
+ghost use Rattle.squeezing.specs.Foretells.{Foretells};
 ghost use Rattle.squeezing.specs.Landing.{Lands, landing_at};
-ghost use Rattle.squeezing.specs.Plan.{plan_of, Readable};
 ghost use Rattle.squeezing.specs.Write.{innermost};
 
 use arrayvec::ArrayVec;
@@ -21,52 +22,8 @@ use common::Refusal;
 use common::put::put;
 use constants::Role;
 use iter::{Next, Record};
-use landing::{Landing, first_index, landing_of};
-
-/// The next of a record, whose bytes are lent with it, 0 where it has none.
-fn next_of(r: Record, rec: &[u8]) -> usize
-    requires kind { r.kind ≡ raw_kind rec.now }
-    requires readable { Readable rec.now }
-    ensures { result ≡ next_by (record_links rec.now) }
-{
-    match constants::nesting_role(r.kind) {
-        Role::Opens => links::next_in(r.kind, rec) as usize,
-        Role::Closes => 0,
-        Role::Neither => 0,
-    }
-}
-
-/// Whether a next is 0 or names a record.
-fn is_named(s: &[u8], first: usize, known: &mut Landing, next: usize) -> bool
-    requires { Lands s.now first known.old }
-    ensures named { result ≡ (eqb next 0 || is_some (landing_at s.now first next)) }
-    ensures known { Lands s.now first known.new }
-{
-    next == 0 || landing_of(s, first, known, next).is_some()
-}
-
-/// The length of the squeezed stream, or 17.
-#[tactic(auto, using(iter::proofs::Steps::start_le_next, iter::proofs::Steps::next_within, iter::proofs::Steps::less_left, iter::proofs::Steps::lent_kind))]
-fn plan(s: &[u8], first: usize) -> Result<usize, Refusal>
-    requires { Nests (read_of s.now first).recs [] }
-    ensures { result ≡ plan_of s.now first }
-{
-    let mut here = Landing::first(first);
-    let mut known = here;
-    loop {
-        match iter::step(s, here.at) {
-            Err(_) => return Ok(here.to),
-            Ok(Next::End(_)) => return Ok(here.to),
-            Ok(Next::Record(r)) => {
-                let next = next_of(r, &s[r.start..r.next]);
-                if !is_named(s, first, &mut known, next) {
-                    return Err(Refusal::WrongNext(r.index));
-                }
-                here = here.behind(r);
-            }
-        }
-    }
-}
+use landing::{Landing, landing_from, landing_of};
+use plan::{Planned, next_of, plan};
 
 /// A link, moved to where the record that it names lands; 0 stays.
 fn moved_link(s: &[u8], first: usize, known: &mut Landing, link: usize) -> usize
@@ -132,18 +89,48 @@ fn write(s: &[u8], first: usize, buffer: &mut [u8])
 }
 
 /// Squeezes a stream from a start on into a lent buffer, and answers the length written. A buffer as long as the stream is long enough.
-#[tactic(auto, using(crate::proofs::First::within))]
 pub fn squeeze(s: &[u8], start: usize, buffer: &mut [u8]) -> Result<usize, Refusal>
     ensures value { result ≡ squeeze_of s.now start (length buffer.old) }
     ensures buffer { buffer.new ≡ buffer_by (squeeze_of s.now start (length buffer.old)) (squeezed s.now start) buffer.old }
     ensures squeezes { IfOk result (λ n. Squeezes s.now start (take n buffer.new)) }
 {
-    check_nesting::check(s, start)?;
-    let first = first_index(s, start);
-    let n = plan(s, first)?;
-    if buffer.len() < n {
+    let Planned { first, length, .. } = plan(s, start)?;
+    if buffer.len() < length {
         return Err(Refusal::NoRoom);
     }
     write(s, first, buffer);
-    Ok(n)
+    Ok(length)
+}
+
+/// What squeezing a stream would give.
+#[derive(Clone, Copy, Debug, PartialEq, Eq)]
+pub struct Gain {
+    /// The length that would be written.
+    pub length: usize,
+
+    /// The fillers that would be dropped: those behind the first record.
+    pub dropped: usize,
+
+    /// Where the record that was asked for would begin.
+    pub at: usize,
+}
+
+/// What squeezing a stream from a start on would give, and where the record at i would begin.
+pub fn preview(s: &[u8], start: usize, i: usize) -> Result<Gain, Refusal>
+    ensures value { result ≡ preview_of s.now start i }
+    ensures foretells { Foretells s.now start i result }
+{
+    let Planned {
+        first,
+        length,
+        dropped,
+    } = plan(s, start)?;
+    match landing_from(s, Landing::first(first), i) {
+        None => Err(Refusal::NothingThere),
+        Some(at) => Ok(Gain {
+            length,
+            dropped,
+            at,
+        }),
+    }
 }

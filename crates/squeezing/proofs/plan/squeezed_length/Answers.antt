@@ -1,4 +1,4 @@
--- `squeezing::plan` meets its contract.
+-- `squeezing::plan::squeezed_length` meets its contract.
 use Rattle.std.proofs.Common.{sym, subst, ap, ◌∙◌, Ok}
 use Rattle.iter.proofs.Reading.{step_is}
 use Rattle.iter.proofs.Steps.{record_of, lent_bytes}
@@ -6,7 +6,7 @@ use Rattle.squeezing.specs.Squeeze.{record_links, next_by}
 use Rattle.squeezing.specs.Plan.{Readable}
 use Rattle.squeezing.proofs.Landings.{behind_fits}
 use Rattle.squeezing.proofs.Plans.{planning_first, at_end, at_refused, readable_here, at_wrong, goes_on}
-use Rattle.squeezing.proofs.plan.Goals as goal
+use Rattle.squeezing.proofs.plan.squeezed_length.Goals as goal
 
 pub loop-r-init : goal.loop-r-init
 loop-r-init c = rw c.first-here.ensures (planning_first _ _ c.requires)

@@ -1,7 +1,7 @@
 -- The measure is what is left of the stream.
 use Rattle.std.proofs.Common.{◌-◌, length}
 use Rattle.squeezing.proofs.Plans.{Planning}
-use Rattle.squeezing.proofs.plan.Given as goal
+use Rattle.squeezing.proofs.plan.squeezed_length.Given as goal
 
 abbrev pub invariant-loop-r : goal.invariant-loop-r
 invariant-loop-r l = Planning l.s l.first l.here l.known

@@ -1,7 +1,7 @@
--- `squeezing::next_of` meets its contract.
+-- `squeezing::plan::next_of` meets its contract.
 use Rattle.std.proofs.Common.{refl, sym, ◌∙◌}
 use Rattle.squeezing.proofs.Plans.{next_there, next_stands, next_of_other}
-use Rattle.squeezing.proofs.next_of.Goals as goal
+use Rattle.squeezing.proofs.plan.next_of.Goals as goal
 
 pub next_in-requires : goal.next_in-requires
 next_in-requires c = next_there _ _ c.requires.kind c.requires.readable (sym c.in-Opens.ensures)
