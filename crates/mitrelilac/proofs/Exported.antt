@@ -1,11 +1,12 @@
 -- Laws of what the exported functions return and write, from what their contracts say.
 -- Assumes nothing.
-use Rattle.std.proofs.Common.{ℕ, ◌≤◌, ◌≡◌, refl, ◌∙◌, ap, sym, subst, arith, List, [], ◌∷◌, ◌++◌, length, take, drop, Option, None, Some, Result, Ok, Err}
+use Rattle.std.proofs.Common.{ℕ, ◌≤◌, ◌≡◌, refl, ◌∙◌, ap, sym, subst, arith, List, [], ◌∷◌, ◌++◌, inl, inr, length, take, drop, Option, None, Some, Result, Ok, Err}
 use Rattle.std.specs.Prelude.{IfOk}
 use Rattle.std.specs.Result.{result_unwrap_or}
 use Rattle.std.proofs.Math.ListN.{get_or}
 use Rattle.std.proofs.Math.Seq.{take-append_seam}
 use Rattle.std.proofs.lemmas.List.{length-append, length-replicate, length-reverse}
+use Rattle.common.specs.Refused.{refusal_number}
 use Rattle.common.specs.declared.Refusal.{Refusal}
 use Rattle.common.specs.declared.Refusal.TheVariants.{NothingThere}
 use Rattle.common.proofs.Numbers.{number_above}
@@ -21,12 +22,14 @@ use Rattle.walk.proofs.Depth.{walk_depth}
 use Rattle.jump.specs.Jump.{jump_of}
 use Rattle.climb.specs.Climb.{climb_of}
 use Rattle.squeezing.specs.Squeezes.{Squeezes}
+use Rattle.squeezing.specs.Foretells.{Foretells}
+use Rattle.squeezing.specs.declared.Gain.{Gain}
 use Rattle.agreement.specs.Agreement.{enclosing, BothAnswer, BothRefuse, ClimbsThem}
 use Rattle.agreement.proofs.Agreement.{condition3}
 use Rattle.words.specs.Written.{written}
 use Rattle.reply.specs.Reply.{Replied}
-use Rattle.reply.specs.Replies.{annotation_reply, check_reply, finding_reply, squeeze_reply, chain_words}
-use Rattle.mitrelilac.specs.Exported.{Call, call, SumsUp, CallMovesOn, CallSqueezes, count, chain_told, CallsAnswer, CallsRefuse, ClimbCallFinds, CallsMeetCondition3}
+use Rattle.reply.specs.Replies.{annotation_reply, check_reply, finding_reply, squeeze_reply, preview_reply, chain_words}
+use Rattle.mitrelilac.specs.Exported.{Call, call, SumsUp, CallMovesOn, CallSqueezes, CallForetells, count, chain_told, CallsAnswer, CallsRefuse, ClimbCallFinds, CallsMeetCondition3}
 
 -- the check returns 0 only where it passes
 passed : (r : Result Counts Refusal) {returned : ℕ} {before after : List ℕ} → Replied (check_reply r) returned before after →
@@ -52,6 +55,17 @@ pub call_squeezes : (r : Result ℕ Refusal) (s : List ℕ) (start : ℕ) (buffe
 unfolding written
 call_squeezes (Ok n) s start buffer g squeezes z = rw g.words squeezes
 call_squeezes (Err e) s start buffer g squeezes z = absurd (omega (arith, number_above e, g.number))
+
+-- a refusal leaves its number, and its position and detail
+pub call_foretells : (r : Result Gain Refusal) (s : List ℕ) (start i : ℕ) {returned : ℕ} {before after : List ℕ} →
+    Replied (preview_reply r) returned before after → Foretells s start i r → CallForetells s start i (call returned after)
+unfolding written
+call_foretells (Ok gain) s start i g foretold = record { answered = λ z. rw g.words foretold; refused = λ n f room. absurd (n g.number) }
+call_foretells (Err e) s start i g foretold =
+    record {
+      answered = λ z. absurd (omega (arith, number_above e, g.number));
+      refused = λ n f room. elim foretold [ inl alike ↦ ap squeeze_reply (alike room) ∙ rw (g.number, g.words) refl | inr nothing ↦ absurd (f (g.number ∙ ap refusal_number nothing.0)) ];
+    }
 
 -- a chain of 64 positions at the most has 64 places
 full : (chain : List ℕ) → length chain ≤ 64 → length (places chain) ≡ 64

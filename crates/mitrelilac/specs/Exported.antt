@@ -3,9 +3,11 @@
 use Rattle.std.specs.Prelude.{ℕ, ◌+◌, ◌-◌, ◌<◌, ◌≤◌, ◌≡◌, List, [], ◌∷◌, length, take, drop, reverse, get_or}
 use Rattle.iter.specs.Step.{within}
 use Rattle.iter.specs.Reading.{Begins}
+use Rattle.squeezing.specs.Squeeze.{squeeze_of}
 use Rattle.squeezing.specs.Squeezes.{Squeezes}
+use Rattle.squeezing.specs.Foretells.{Foretold}
 use Rattle.agreement.specs.Agreement.{OpenerBegins, enclosing}
-use Rattle.reply.specs.Replies.{chain_words}
+use Rattle.reply.specs.Replies.{squeeze_reply, chain_words}
 
 -- what a call returned, and the words that were lent to it, as they are afterwards
 pub record Call : Type 0 where
@@ -28,6 +30,12 @@ CallMovesOn s at annotation =
 -- Squeeze, where it returned 0: the first bytes of the buffer, as many as out[0] says, are the squeezed stream.
 abbrev pub CallSqueezes : List ℕ → ℕ → Call → List ℕ → Type 0
 CallSqueezes s start squeeze buffer = squeeze.returned ≡ 0 → Squeezes s start (take (get_or squeeze.out 0 0) buffer)
+
+-- Preview: where it returned 0, its words are what squeezing the same stream from the same start gives. Where it returned neither 0 nor 14,
+-- squeezing returns the same number and writes the same two words, whatever the room.
+pub record CallForetells (s : List ℕ) (start i : ℕ) (preview : Call) : Type 0 where
+  pub answered : preview.returned ≡ 0 → Foretold s start i (record { length = get_or preview.out 0 0; dropped = get_or preview.out 1 0; at = get_or preview.out 2 0 })
+  pub refused : ¬ (preview.returned ≡ 0) → ¬ (preview.returned ≡ 14) → (room : ℕ) → squeeze_reply (squeeze_of s start room) ≡ record { number = preview.returned; words = take 2 preview.out }
 
 -- The words of a finder's answer: out[0] is its count, and from out[1] on, 65 words, stand how many scopes there are and the 64 places
 -- (`chain_words`).

@@ -20,9 +20,10 @@ ghost use Rattle.walk.specs.Walk.{walk_of};
 ghost use Rattle.jump.specs.Jump.{jump_of};
 ghost use Rattle.climb.specs.Climb.{climb_of};
 ghost use Rattle.squeezing.specs.Squeeze.{squeezed, squeeze_of, buffer_by};
+ghost use Rattle.squeezing.specs.Preview.{preview_of};
 ghost use Rattle.reply.specs.Reply.{Replied};
-ghost use Rattle.reply.specs.Replies.{step_reply, kind_reply, decode_reply, name_reply, entry_reply, annotation_reply, check_reply, finding_reply, squeeze_reply};
-ghost use Rattle.mitrelilac.specs.Exported.{call, SumsUp, CallMovesOn, CallSqueezes};
+ghost use Rattle.reply.specs.Replies.{step_reply, kind_reply, decode_reply, name_reply, entry_reply, annotation_reply, check_reply, finding_reply, squeeze_reply, preview_reply};
+ghost use Rattle.mitrelilac.specs.Exported.{call, SumsUp, CallMovesOn, CallSqueezes, CallForetells};
 
 /// One step from a position. End: 0, position. A record: 1, index, where its bytes start, how many they are, next position.
 pub fn mitrelilac_step(stream: &[u8], position: usize, out: &mut [u64; 5]) -> u32
@@ -116,4 +117,12 @@ pub fn mitrelilac_squeeze(stream: &[u8], start: usize, buffer: &mut [u8], out: &
     ensures squeezes { CallSqueezes stream.now start (call result out.new) buffer.new }
 {
     reply::reply_squeeze(squeezing::squeeze(stream, start, buffer), out)
+}
+
+/// What the squeeze would give: the length, how many fillers it would drop, and where the record at i would begin.
+pub fn mitrelilac_preview(stream: &[u8], start: usize, i: usize, out: &mut [u64; 3]) -> u32
+    ensures replied { Replied (preview_reply (preview_of stream.now start i)) result out.old out.new }
+    ensures foretells { CallForetells stream.now start i (call result out.new) }
+{
+    reply::reply_preview(squeezing::preview(stream, start, i), out)
 }

@@ -18,9 +18,10 @@ ghost use Rattle.walk.specs.Walk.{walk_of};
 ghost use Rattle.jump.specs.Jump.{jump_of};
 ghost use Rattle.climb.specs.Climb.{climb_of};
 ghost use Rattle.squeezing.specs.Squeeze.{squeezed, squeeze_of, buffer_by};
+ghost use Rattle.squeezing.specs.Preview.{preview_of};
 ghost use Rattle.reply.specs.Reply.{Replied};
-ghost use Rattle.reply.specs.Replies.{step_reply, kind_reply, decode_reply, name_reply, entry_reply, annotation_reply, check_reply, finding_reply, squeeze_reply};
-ghost use Rattle.mitrelilac.specs.Exported.{call, SumsUp, CallMovesOn, CallSqueezes};
+ghost use Rattle.reply.specs.Replies.{step_reply, kind_reply, decode_reply, name_reply, entry_reply, annotation_reply, check_reply, finding_reply, squeeze_reply, preview_reply};
+ghost use Rattle.mitrelilac.specs.Exported.{call, SumsUp, CallMovesOn, CallSqueezes, CallForetells};
 
 /// One step from a position. End: 0, position. A record: 1, index, where its bytes start, how many they are, next position.
 #[unsafe(no_mangle)]
@@ -123,4 +124,18 @@ pub extern "C" fn mitrelilac_squeeze(
     ensures squeezes { CallSqueezes stream.now start (call result out.new) buffer.new }
 {
     mitrelilac::mitrelilac_squeeze(stream, start, buffer, out)
+}
+
+/// What the squeeze would give: the length, how many fillers it would drop, and where the record at i would begin.
+#[unsafe(no_mangle)]
+pub extern "C" fn mitrelilac_preview(
+    stream: &[u8],
+    start: usize,
+    i: usize,
+    out: &mut [u64; 3],
+) -> u32
+    ensures replied { Replied (preview_reply (preview_of stream.now start i)) result out.old out.new }
+    ensures foretells { CallForetells stream.now start i (call result out.new) }
+{
+    mitrelilac::mitrelilac_preview(stream, start, i, out)
 }

@@ -13,6 +13,7 @@ use Rattle.registers.specs.declared.entry.RegisterEntry.{RegisterEntry}
 use Rattle.iter.specs.declared.Next.{Next}
 use Rattle.iter.specs.declared.Next.TheVariants as N
 use Rattle.check_nesting.specs.declared.Counts.{Counts}
+use Rattle.squeezing.specs.declared.Gain.{Gain}
 use Rattle.chain.specs.Chain.{places}
 use Rattle.chain.specs.declared.Found.{Found}
 use Rattle.words.specs.Word.{truth, signed_word}
@@ -89,3 +90,7 @@ finding_reply = reply_by found_words
 -- Squeezing: "the answer is the length written"
 abbrev pub squeeze_reply : Result ℕ Refusal → Reply
 squeeze_reply = reply_by (λ n. n ∷ [])
+
+-- Its preview: "the length, the number of fillers dropped and the new position of a given record"
+abbrev pub preview_reply : Result Gain Refusal → Reply
+preview_reply = reply_by (λ g. g.length ∷ g.dropped ∷ g.at ∷ [])

@@ -7,7 +7,7 @@ pub mod annotation;
 ghost use Rattle.std.specs.Prelude.{◌≡◌, ◌≤◌, length};
 ghost use Rattle.words.specs.Written.{written};
 ghost use Rattle.reply.specs.Reply.{Replied, answers, refusal_reply};
-ghost use Rattle.reply.specs.Replies.{step_reply, name_reply, entry_reply, check_reply, found_words, finding_reply, squeeze_reply};
+ghost use Rattle.reply.specs.Replies.{step_reply, name_reply, entry_reply, check_reply, found_words, finding_reply, squeeze_reply, preview_reply};
 
 use chain::Found;
 use check_nesting::Counts;
@@ -15,6 +15,7 @@ use common::Refusal;
 use iter::Next;
 use names::Part;
 use registers::entry::RegisterEntry;
+use squeezing::Gain;
 use words::put;
 
 /// A refusal: its position and its detail.
@@ -129,6 +130,16 @@ pub fn reply_squeeze(written: Result<usize, Refusal>, out: &mut [u64; 2]) -> u32
 {
     match written {
         Ok(n) => answer(out, [n as u64]),
+        Err(e) => refuse(out, e),
+    }
+}
+
+/// What a squeeze would give: the length, the fillers dropped, and where the record would begin.
+pub fn reply_preview(gain: Result<Gain, Refusal>, out: &mut [u64; 3]) -> u32
+    ensures { Replied (preview_reply gain) result out.old out.new }
+{
+    match gain {
+        Ok(g) => answer(out, [g.length as u64, g.dropped as u64, g.at as u64]),
         Err(e) => refuse(out, e),
     }
 }

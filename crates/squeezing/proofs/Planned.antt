@@ -51,7 +51,7 @@ module _ (s : List ℕ) (start : ℕ) {p : Planned} (e : Ok p ≡ plan_of s star
   pub nests : Nests (read_of s p.first).recs []
   nests = F.nests s start says.checked is_plan.first
 
-  pub written : squeezed_from s p.first (read_of s p.first).recs ≡ squeezed s start
+  written : squeezed_from s p.first (read_of s p.first).recs ≡ squeezed s start
   written = F.written s start says.checked is_plan.first
 
   pub found : (i : ℕ) → lands_from p.first (read_of s p.first).recs i ≡ lands_from (first_of s start) (read_of s start).recs i
@@ -67,10 +67,14 @@ module _ (s : List ℕ) (start : ℕ) {p : Planned} (e : Ok p ≡ plan_of s star
   with_less n l = too_long s start is_plan.can (omega (arith, is_plan.length))
 
   -- what the buffer holds, once the squeezed stream is put there
-  pub call_squeezes : (before after : List ℕ) → after ≡ put 0 (squeezed s start) before → Squeezes s start (take p.length after)
-  unfolding put
-  call_squeezes before after is =
-      rw (is, take_at (squeezed s start) (drop (0 + length (squeezed s start)) before) p.length (sym is_plan.length)) (squeezed_squeezes s start is_plan.can)
+  module _ (before after : List ℕ) (w : after ≡ put 0 (squeezed_from s p.first (read_of s p.first).recs) before) where
+    pub put_squeezed : after ≡ put 0 (squeezed s start) before
+    put_squeezed = w ∙ ap (λ t. put 0 t before) written
+
+    pub call_squeezes : Squeezes s start (take p.length after)
+    unfolding put
+    call_squeezes =
+        rw (put_squeezed, take_at (squeezed s start) (drop (0 + length (squeezed s start)) before) p.length (sym is_plan.length)) (squeezed_squeezes s start is_plan.can)
 
   module _ (i : ℕ) where
     preview_is : {at : Option ℕ} → at ≡ lands_from p.first (read_of s p.first).recs i → preview_at s start at ≡ preview_of s start i

@@ -1,8 +1,7 @@
 -- `squeezing::squeeze` meets its contract.
-use Rattle.std.proofs.Common.{◌≡◌, ◌∙◌, length, rules, sym, ap}
-use Rattle.common.specs.Bytes.{put}
+use Rattle.std.proofs.Common.{◌∙◌, length, rules, sym, ap}
 use Rattle.squeezing.specs.Squeeze.{squeezed, buffer_by}
-use Rattle.squeezing.proofs.Planned.{squeeze_refused, within, nests, written, room, with_room, with_less, call_squeezes}
+use Rattle.squeezing.proofs.Planned.{squeeze_refused, within, nests, room, with_room, with_less, put_squeezed, call_squeezes}
 use Rattle.squeezing.proofs.squeeze.Goals as goal
 
 pub returns-in_err-first-clause-value : goal.returns-in_err-first-clause-value
@@ -29,11 +28,10 @@ write-requires-clause-room c = room _ _ c.in_ok-first.ensures _ c.if-buffer-leng
 pub returns-clause-value : goal.returns-clause-value
 returns-clause-value c = sym (with_room _ _ c.in_ok-first.ensures _ c.if-buffer-length.false)
 
-buffer_written : (c : goal.After-slice_known-2-1) → c.write.new.buffer ≡ put 0 (squeezed c.args.s.now c.args.start) c.args.buffer.now
-buffer_written c = c.write.ensures ∙ ap (λ t. put 0 t c.args.buffer.now) (written _ _ c.in_ok-first.ensures)
-
 pub returns-clause-buffer : goal.returns-clause-buffer
-returns-clause-buffer c = buffer_written c ∙ ap (λ r. buffer_by r (squeezed c.args.s.now c.args.start) c.args.buffer.now) (returns-clause-value c)
+returns-clause-buffer c =
+    put_squeezed _ _ c.in_ok-first.ensures _ _ c.write.ensures
+    ∙ ap (λ r. buffer_by r (squeezed c.args.s.now c.args.start) c.args.buffer.now) (returns-clause-value c)
 
 pub returns-clause-squeezes : goal.returns-clause-squeezes
-returns-clause-squeezes c = call_squeezes _ _ c.in_ok-first.ensures _ _ (buffer_written c)
+returns-clause-squeezes c = call_squeezes _ _ c.in_ok-first.ensures _ _ c.write.ensures
