@@ -130,6 +130,9 @@ static struct stream load(const char *path)
     s.buffer = room(s.length + 1, 1);
     if (mitrelilac_squeeze(s.bytes, s.length, START, s.buffer, s.length, out) != 0)
         fail("the stream is not squeezed");
+    uint64_t length = out[0];
+    if (mitrelilac_preview(s.bytes, s.length, START, s.lasts[SIZES - 1], out) != 0 || out[0] != length)
+        fail("the preview is of another stream");
     for (int size = 0; size < SIZES; size++) {
         if (mitrelilac_walk(s.bytes, s.length, START, s.lasts[size], out) != 0)
             fail("the stream has no scopes");
@@ -179,6 +182,13 @@ static void squeeze(const struct stream *s)
     mitrelilac_squeeze(s->bytes, s->length, START, s->buffer, s->length, out);
 }
 
+/* Of the last record, to which it reads on. */
+static void preview(const struct stream *s)
+{
+    uint64_t out[3];
+    mitrelilac_preview(s->bytes, s->length, START, s->lasts[SIZES - 1], out);
+}
+
 static void walk(const struct stream *s, int size)
 {
     uint64_t out[66];
@@ -200,7 +210,7 @@ static void climb(const struct stream *s)
 
 enum pass {
     STEP, PDB_STEP, DECODE, PDB_DECODE, DECODE_KNOWN, PDB_DECODE_KNOWN, NAME, PDB_NAME,
-    ANNOTATE, PDB_ANNOTATE, CHECK, SQUEEZE, CLIMB,
+    ANNOTATE, PDB_ANNOTATE, CHECK, SQUEEZE, PREVIEW, CLIMB,
     WALK, JUMP = WALK + SIZES, PASSES = JUMP + SIZES
 };
 
@@ -219,6 +229,7 @@ static void make(const struct stream *s, int pass)
     case PDB_ANNOTATE: annotate(s, pdb_annotation); break;
     case CHECK: check(s); break;
     case SQUEEZE: squeeze(s); break;
+    case PREVIEW: preview(s); break;
     case CLIMB: climb(s); break;
     default: pass < JUMP ? walk(s, pass - WALK) : jump(s, pass - JUMP);
     }
@@ -283,6 +294,7 @@ static void report(const char *path, const struct stream *s, const struct times 
         row(times, "annotations, per instruction", ANNOTATE, "pdb's iterator", PDB_ANNOTATE, s->instructions, "1.00");
     row(times, "check", CHECK, "step through all", STEP, all, "2.00");
     row(times, "squeeze", SQUEEZE, "check", CHECK, all, "");
+    row(times, "preview of the last record", PREVIEW, "squeeze", SQUEEZE, all, "1.00");
     row(times, "walk to the last record", walk, "step through all", STEP, walked, "1.30");
     row(times, "jump to the last record", jump, "walk to it", walk, walked, "0.20");
     printf("\nClimb from the deepest opener: %.1f ns, %" PRIu64 " links.\n\n", time_of(times, CLIMB) / CLIMBS, s->counts[5] - 1);

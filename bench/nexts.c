@@ -1,9 +1,9 @@
 /*
- * Measures what nexts cost a squeeze, on streams of procedures that hold nothing, and prints a table in Markdown:
+ * Measures what nexts cost a squeeze and its preview, on streams of procedures that hold nothing, and prints a table in Markdown:
  *
  *     nexts ROUNDS
  *
- * Every round checks a stream and squeezes it. A time is the median over the rounds, and a ratio the median of the rounds' ratios.
+ * Every round checks a stream, squeezes it, and previews its last record. A time is the median over the rounds, and a ratio the median of the rounds' ratios.
  */
 #include "timing.h"
 
@@ -60,23 +60,31 @@ static void measure(uint32_t count, enum nexts nexts, int rounds)
     size_t length = index_of(count);
     uint8_t *buffer = room(length, 1);
     double *checks = room((size_t)rounds, sizeof *checks), *squeezes = room((size_t)rounds, sizeof *squeezes);
+    double *previews = room((size_t)rounds, sizeof *previews);
     uint64_t out[6];
     for (int round = 0; round < rounds; round++) {
         double start = now();
         uint32_t checked = mitrelilac_check(stream, length, START, out);
         double between = now();
         uint32_t squeezed = mitrelilac_squeeze(stream, length, START, buffer, length, out);
-        squeezes[round] = now() - between;
+        double behind = now();
+        uint32_t previewed = mitrelilac_preview(stream, length, START, length - CLOSER, out);
+        previews[round] = now() - behind;
+        squeezes[round] = behind - between;
         checks[round] = between - start;
         if (checked || squeezed || memcmp(stream, buffer, length) != 0)
             fail("a stream without fillers is squeezed wrong");
+        if (previewed || out[0] != length || out[1] != 0 || out[2] != length - CLOSER)
+            fail("a stream without fillers is previewed wrong");
     }
-    printf("| %s | %" PRIu32 " | %.1f | %.1f | %.2f |\n", names[nexts], count, median(checks, rounds) / 1e3,
+    printf("| %s | %" PRIu32 " | %.1f | %.1f | %.2f ", names[nexts], count, median(checks, rounds) / 1e3,
            median(squeezes, rounds) / 1e3, ratio(squeezes, checks, rounds));
+    printf("| %.1f | %.2f |\n", median(previews, rounds) / 1e3, ratio(previews, squeezes, rounds));
     free(stream);
     free(buffer);
     free(checks);
     free(squeezes);
+    free(previews);
 }
 
 int main(int argc, char **argv)
@@ -86,7 +94,8 @@ int main(int argc, char **argv)
         fputs("usage: nexts ROUNDS\n", stderr);
         return 2;
     }
-    printf("### Nexts\n\n| nexts | procedures | check, us | squeeze, us | ratio |\n|---|---|---|---|---|\n");
+    printf("### Nexts\n\n| nexts | procedures | check, us | squeeze, us | to the check | preview, us | to the squeeze |\n");
+    printf("|---|---|---|---|---|---|---|\n");
     for (int nexts = 0; nexts < NEXTS; nexts++) {
         for (int k = 0; k < COUNTS; k++)
             measure(counts[k], (enum nexts)nexts, rounds);

@@ -38,11 +38,18 @@ extern "C" {
         room: usize,
         out: *mut u64,
     ) -> u32;
+    fn mitrelilac_preview(
+        stream: *const u8,
+        length: usize,
+        start: usize,
+        i: usize,
+        out: *mut u64,
+    ) -> u32;
     fn mitrelilac_decode(record: *const u8, length: usize, out: *mut u64) -> u32;
 }
 
 /// The operations that the library exports, each with the words that it is lent.
-pub const OPS: [(Op, usize); 11] = [
+pub const OPS: [(Op, usize); 12] = [
     (Op::Step, 5),
     (Op::Decode, 24),
     (Op::Name, 3),
@@ -54,6 +61,7 @@ pub const OPS: [(Op, usize); 11] = [
     (Op::Jump, 66),
     (Op::Climb, 66),
     (Op::Squeeze, 2),
+    (Op::Preview, 3),
 ];
 
 /// A call but for what it is lent to write to.
@@ -93,6 +101,7 @@ impl Call {
                 Op::Jump => mitrelilac_jump(bytes, length, start, arg, out),
                 Op::Climb => mitrelilac_climb(bytes, length, arg, out),
                 Op::Squeeze => mitrelilac_squeeze(bytes, length, start, buffer, arg, out),
+                Op::Preview => mitrelilac_preview(bytes, length, start, arg, out),
                 _ => unreachable!("the library does not export {}", op.name()),
             }
         }

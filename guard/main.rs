@@ -19,6 +19,8 @@ mod nesting;
 mod numbers;
 #[path = "../oracle/src/pdb.rs"]
 mod pdb;
+#[path = "../oracle/src/previews.rs"]
+mod previews;
 #[path = "../oracle/src/random.rs"]
 mod random;
 #[path = "../oracle/src/reading.rs"]
@@ -188,6 +190,7 @@ impl Guard {
             Op::Jump,
             Op::Climb,
             Op::Squeeze,
+            Op::Preview,
         ] {
             giant(op, untouchable, GREATEST + 1, 0, &[5, 0, 0]);
         }

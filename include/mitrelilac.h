@@ -22,8 +22,8 @@
  * 0x114e, S_PROC_ID_END 0x114f). An opener's parent field is the index of the opener around it, 0 if there is none, its end field the
  * index of its closer.
  *
- * S_LPROC32_ID (0x1146) is an opener to mitrelilac_check, mitrelilac_walk, mitrelilac_jump, mitrelilac_climb and
- * mitrelilac_squeeze, but not to mitrelilac_kind, which answers as pdb does: who keeps a stack of scopes by mitrelilac_kind pushes at
+ * S_LPROC32_ID (0x1146) is an opener to mitrelilac_check, mitrelilac_walk, mitrelilac_jump, mitrelilac_climb, mitrelilac_squeeze
+ * and mitrelilac_preview, but not to mitrelilac_kind, which answers as pdb does: who keeps a stack of scopes by mitrelilac_kind pushes at
  * 0x1146 too. S_LPROCMIPS_ID (0x1148) and S_LPROCIA64_ID (0x114a) are openers to none of them.
  *
  *
@@ -59,7 +59,7 @@ extern "C" {
 
 /*
  * What a call returns. The position (out[0]) and the detail (out[1]) are 0 but where a line here or at the function says more. The
- * squeeze checks first, and refuses as the check does.
+ * squeeze and its preview check first, and refuse as the check does.
  */
 enum mitrelilac_number {
     MITRELILAC_ANSWERED = 0,
@@ -79,7 +79,7 @@ enum mitrelilac_number {
     MITRELILAC_NOTHING_THERE = 14,            /* no record begins there, or it is no opener, no register list, or has no such entry */
     MITRELILAC_INVALID_COMPRESSED_ANNOTATION = 15, /* annotation: a number is cut off or malformed, at its first byte */
     MITRELILAC_UNKNOWN_BINARY_ANNOTATION = 16, /* annotation: no instruction has this code, which is the detail */
-    MITRELILAC_WRONG_NEXT = 17,               /* squeeze: a next field that is neither 0 nor a record's index, at its opener's index */
+    MITRELILAC_WRONG_NEXT = 17,               /* squeeze, preview: a next field that is neither 0 nor a record's index, at its opener's index */
     MITRELILAC_NO_ROOM = 18                   /* squeeze: the buffer is too short */
 };
 
@@ -226,6 +226,31 @@ uint32_t mitrelilac_climb(const uint8_t *stream, size_t length, size_t i, uint64
  * docs/PERFORMANCE.md has what many of them cost.
  */
 uint32_t mitrelilac_squeeze(const uint8_t *stream, size_t length, size_t start, uint8_t *buffer, size_t room, uint64_t out[MITRELILAC_WORDS(2)]);
+
+/*
+ * The preview of a squeeze: what mitrelilac_squeeze gives of the same stream from the same `start`, without a buffer, and where the
+ * record at `i` is then. With it a buffer can be lent that is just long enough (`step`, `gain` and `out` are words):
+ *
+ *     mitrelilac_step(stream, length, start, step);                      the first record is at step[1], if step[0] is 1
+ *     mitrelilac_preview(stream, length, start, step[1], gain);          gain[0] bytes, gain[1] fillers fewer
+ *     buffer = malloc(gain[0]);
+ *     mitrelilac_squeeze(stream, length, start, buffer, gain[0], out);   out[0] is gain[0]
+ *
+ *     out[0]  the length that the squeeze writes
+ *     out[1]  how many fillers it drops: those behind the first record
+ *     out[2]  the index of the record in the squeezed stream
+ *
+ * The two go together, and this is proved (crates/squeezing/specs/Foretells.antt): where the preview returns 0, the squeeze does with
+ * out[0] bytes of room or more, and answers that length; with less it returns 18. The record at `i` is the one at out[2] of the squeezed
+ * stream, but for its moved links. The stream has out[1] fillers more than the squeezed one, as mitrelilac_check counts them from
+ * `start`. Where the preview refuses with another number than 14, the squeeze refuses alike, words and all, whatever the room.
+ *
+ * Refuses as mitrelilac_squeeze, but never with 18. After that
+ *     14  no record from `start` on has the index `i`: 0
+ *
+ * A call reads what a squeeze reads before it writes, and then the records up to the one at `i`.
+ */
+uint32_t mitrelilac_preview(const uint8_t *stream, size_t length, size_t start, size_t i, uint64_t out[MITRELILAC_WORDS(3)]);
 
 /* The classes of records: what mitrelilac_decode makes of which kinds. */
 enum mitrelilac_class {

@@ -1,4 +1,4 @@
-//! The operations, answered by pdb; the check, the finders and the squeeze by plain code over it.
+//! The operations, answered by pdb; the check, the finders, the squeeze and its preview by plain code over it.
 
 use fallible_iterator::FallibleIterator;
 use scroll::ctx::TryFromCtx;
@@ -8,7 +8,7 @@ use crate::list::Question;
 use crate::nesting;
 use crate::reading::{self, decode, symbols_from, Reading, Refusal};
 use crate::row::Answer;
-use crate::squeeze::squeeze;
+use crate::squeeze::{preview, squeeze};
 use crate::symbol::*;
 use crate::words::{class_of, Words};
 
@@ -52,6 +52,7 @@ ops! {
     Jump "jump" 42;
     Climb "climb" 43;
     Squeeze "squeeze" 44;
+    Preview "preview" 45;
 }
 
 impl Op {
@@ -115,6 +116,7 @@ fn reply(question: &Question) -> Reply<'_> {
         Op::Jump => Ok(whole(bytes, nesting::jump(bytes, start, arg)?)),
         Op::Climb => Ok(whole(bytes, nesting::climb(bytes, arg)?)),
         Op::Squeeze => Ok(whole(bytes, squeeze(bytes, start, arg)?)),
+        Op::Preview => Ok(whole(bytes, preview(bytes, start, arg)?)),
     }
 }
 

@@ -5,10 +5,10 @@ use std::iter;
 use crate::answer::Op;
 use crate::list::Question;
 use crate::random::Random;
-use crate::{line_programs, numbers, records, scopes, squeezes, steps};
+use crate::{line_programs, numbers, previews, records, scopes, squeezes, steps};
 
 pub const GROUPS: &str =
-    "constants, numbers, records, steps, nesting, squeeze, real, signed, annotations, brief, sites";
+    "constants, numbers, records, steps, nesting, squeeze, preview, real, signed, annotations, brief, sites";
 
 pub type Questions = Box<dyn Iterator<Item = Question>>;
 
@@ -25,6 +25,11 @@ pub fn questions(group: &str, count: u64, seed: u64) -> Option<Questions> {
         "squeeze" => {
             let grid = squeezes::grid(&mut random);
             let more = iter::repeat_with(move || squeezes::questions(&mut random));
+            Some(grid_and_more(grid, more.flatten(), count))
+        }
+        "preview" => {
+            let grid = previews::grid(&mut random);
+            let more = iter::repeat_with(move || previews::questions(&mut random));
             Some(grid_and_more(grid, more.flatten(), count))
         }
         "real" => Some(mixed(|_| Vec::new(), scopes::real_question, count, random)),

@@ -7,6 +7,7 @@ mod list;
 mod nesting;
 mod numbers;
 mod pdb;
+mod previews;
 mod random;
 mod reading;
 mod records;

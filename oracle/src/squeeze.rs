@@ -1,5 +1,6 @@
 //! Squeezing out filler as document 02 says it, written plainly over pdb's iterator and decode: the
-//! records as a list, and a map from where they stand to where they go. pdb has none of it.
+//! records as a list, and a map from where they stand to where they go. A preview squeezes, and looks
+//! at the result. pdb has none of it.
 
 use std::collections::BTreeMap;
 use std::iter;
@@ -23,6 +24,37 @@ impl Words for Squeezed {
             answer.push(u64::from_le_bytes(word));
         }
     }
+}
+
+/// What a squeeze would give.
+pub struct Preview {
+    length: usize,
+    dropped: usize,
+    /// Where the record that was asked for begins.
+    at: u64,
+}
+
+impl Words for Preview {
+    fn write(&self, answer: &mut Answer) {
+        self.length.write(answer);
+        self.dropped.write(answer);
+        answer.push(self.at);
+    }
+}
+
+/// What squeezing into a long enough buffer gives. A record keeps its number among the records.
+pub fn preview(stream: &[u8], start: u64, i: u64) -> Reading<Preview> {
+    let Squeezed(result) = squeeze(stream, start, u64::MAX)?;
+    let fillers = |stream: &[u8]| check(stream, start).map(|counts| counts.passed.records);
+    let number = records(stream, start)?
+        .iter()
+        .position(|record| index(record) == i)
+        .ok_or(Refusal::new(14))?;
+    Ok(Preview {
+        length: result.len(),
+        dropped: fillers(stream)? - fillers(&result)?,
+        at: index(&records(&result, start)?[number]),
+    })
 }
 
 /// Where each record goes, by where it stands.

@@ -18,12 +18,14 @@ const LONGEST: usize = 65_000;
 
 /// Small streams from every start, and into buffers of every length up to their own and one more.
 pub fn grid(random: &mut Random) -> Vec<Question> {
-    let streams = iter::repeat_with(|| any_stream(random));
-    let small: Vec<Stream> = streams
+    small_streams(random).iter().flat_map(everywhere).collect()
+}
+
+pub fn small_streams(random: &mut Random) -> Vec<Stream> {
+    iter::repeat_with(|| any_stream(random))
         .filter(|stream| stream.bytes.len() <= 120)
         .take(100)
-        .collect();
-    small.iter().flat_map(everywhere).collect()
+        .collect()
 }
 
 fn everywhere(stream: &Stream) -> Vec<Question> {
@@ -63,7 +65,7 @@ fn result_of(stream: &Stream, start: u64) -> Option<Vec<u8>> {
 }
 
 /// Mostly that of the records; else one of a few from which the check passes, 0, 4, or any.
-fn start(stream: &Stream, random: &mut Random) -> u64 {
+pub fn start(stream: &Stream, random: &mut Random) -> u64 {
     let first = stream.starts[0] as u64;
     match random.below(8) {
         0 => stream.position(random),
@@ -162,7 +164,7 @@ fn has_next(record: &Symbol) -> bool {
     matches!(class(record.raw_kind()), PROCEDURE | THUNK)
 }
 
-fn any_stream(random: &mut Random) -> Stream {
+pub fn any_stream(random: &mut Random) -> Stream {
     let records = match random.below(128) {
         0..=3 => Vec::new(),
         4..=7 => scopes::high_tower(random),

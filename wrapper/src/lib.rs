@@ -69,6 +69,13 @@ extern "C" {
         room: usize,
         out: &mut [u64; 2],
     ) -> u32;
+    fn mitrelilac_preview(
+        stream: *const u8,
+        length: usize,
+        start: usize,
+        i: usize,
+        out: &mut [u64; 3],
+    ) -> u32;
     fn mitrelilac_decode(record: *const u8, length: usize, out: &mut [u64; 24]) -> u32;
 }
 
@@ -261,4 +268,26 @@ pub fn squeeze(stream: &[u8], start: usize, buffer: &mut [u8]) -> Result<usize, 
         mitrelilac_squeeze(stream.as_ptr(), stream.len(), start, to, room, out)
     })?;
     Ok(length as usize)
+}
+
+/// What squeezing a stream would give.
+#[derive(Clone, Copy, Debug, PartialEq, Eq)]
+pub struct Gain {
+    /// The length that would be written.
+    pub length: usize,
+    /// The fillers that would be dropped: those behind the first record.
+    pub dropped: u64,
+    /// Where the record that was asked for would begin.
+    pub at: usize,
+}
+
+/// What [`squeeze`] would give, and where the record at i would begin. A buffer of that length is long enough for it.
+pub fn preview(stream: &[u8], start: usize, i: usize) -> Result<Gain, Refusal> {
+    let [length, dropped, at] =
+        ask(|out| unsafe { mitrelilac_preview(stream.as_ptr(), stream.len(), start, i, out) })?;
+    Ok(Gain {
+        length: length as usize,
+        dropped,
+        at: at as usize,
+    })
 }

@@ -1,4 +1,4 @@
-//! Fillers squeezed out of streams: what is written, what is left alone, and refusals.
+//! Fillers squeezed out of streams: what is written, what is left alone, refusals, and what a preview says of it.
 
 use mitrelilac::*;
 
@@ -154,5 +154,83 @@ fn a_next_that_names_no_record() {
 fn too_little_room() {
     for room in [0, 1, 119] {
         refuses(&filled_by_nexts(108, 24), 4, room, Reason::NoRoom, 0);
+    }
+}
+
+/// Where records of the filled stream begin, and of the unfilled one.
+const MOVED: [(usize, usize); 7] = [
+    (8, 8),
+    (24, 16),
+    (64, 56),
+    (92, 80),
+    (104, 84),
+    (108, 88),
+    (144, 116),
+];
+
+#[test]
+fn a_preview_says_what_squeezing_gives() {
+    let filled = filled_by_nexts(108, 24);
+    for (i, at) in MOVED {
+        let gain = preview(&filled, 4, i).unwrap();
+        let expected = Gain {
+            length: 120,
+            dropped: 5,
+            at,
+        };
+        assert_eq!(gain, expected);
+        let (answer, buffer) = squeezed(&filled, 4, gain.length);
+        assert_eq!(answer, Ok(gain.length));
+        let moved = records(&buffer, 4).map(|record| record.unwrap().index);
+        assert_eq!(moved.filter(|&index| index == at).count(), 1);
+        assert!(squeezed(&filled, 4, gain.length - 1).0.is_err());
+    }
+}
+
+#[test]
+fn a_preview_drops_what_a_squeeze_drops() {
+    let filled = filled_by_nexts(108, 24);
+    let mut unfilled = vec![0; filled.len()];
+    for start in [4, 8, 16, 24] {
+        let gain = preview(&filled, start, 108).unwrap();
+        let length = squeeze(&filled, start, &mut unfilled).unwrap();
+        let before = check(&filled, start).unwrap().fillers;
+        let after = check(&unfilled[..length], start).unwrap().fillers;
+        assert_eq!((gain.length, gain.dropped), (length, before - after));
+    }
+    // Nothing is dropped of a real stream.
+    let real = include_bytes!("../../examples/nested.sym");
+    let gain = preview(real, 4, 2468).unwrap();
+    assert_eq!((gain.length, gain.dropped, gain.at), (real.len(), 0, 2468));
+}
+
+/// The preview is refused.
+fn refuses_preview(stream: &[u8], start: usize, i: usize, reason: Reason, position: usize) {
+    let refusal = Refusal { reason, position };
+    assert_eq!(preview(stream, start, i), Err(refusal));
+}
+
+#[test]
+fn where_no_record_begins() {
+    let filled = filled_by_nexts(108, 24);
+    // Before the first record, at fillers, in a record, at the end, and far behind it.
+    for i in [0, 4, 16, 88, 136, 9, 26, 152, usize::MAX] {
+        refuses_preview(&filled, 4, i, Reason::NothingThere, 0);
+    }
+    // At a record before the start, and where there is no record.
+    refuses_preview(&filled, 16, 8, Reason::NothingThere, 0);
+    refuses_preview(&filled, 152, 24, Reason::NothingThere, 0);
+    refuses_preview(b"", 0, 0, Reason::NothingThere, 0);
+}
+
+#[test]
+fn what_squeezing_refuses_comes_first() {
+    let wrong = filled_with(&procedure(104, 16), &block(24, 88), &thunk(144, 0));
+    let cut = &filled_by_nexts(16, 24)[..150];
+    for i in [24, 16] {
+        refuses_preview(&wrong, 4, i, Reason::WrongEnd, 92);
+        refuses_preview(cut, 4, i, Reason::UnexpectedEof, 150);
+        let unnamed = filled_by_nexts(136, 16);
+        refuses_preview(&unnamed, 4, i, Reason::WrongNext, 24);
     }
 }

@@ -1,4 +1,4 @@
--- The proved examples of document 01, line by line, and stream A squeezed. Each holds by computing the definitions.
+-- The proved examples of document 01, line by line, and stream A squeezed and previewed. Each holds by computing the definitions.
 use Rattle.std.specs.Prelude.{ℕ, ◌≡◌, refl, false, List, [], ◌∷◌, negsuc, replicate, Result, Ok, Err}
 use Rattle.std.proofs.Common.{ap, ◌∙◌, inl, inr, arith}
 use Rattle.std.specs.Borrow.{Bor}
@@ -29,7 +29,8 @@ use Rattle.jump.specs.Jump.{jump_of, jump_from, jump_by, jump_body}
 use Rattle.jump.specs.Hop.{hop_of, land_of}
 use Rattle.climb.specs.Climb.{climb_of, climb_on}
 use Rattle.climb.specs.Opener.{opener_of}
-use Rattle.squeezing.specs.Squeeze.{first_of, lands_from, record_links, moved, row, squeezed_from, squeezed, nexts_of, squeeze_of}
+use Rattle.squeezing.specs.Squeeze.{first_of, lands_from, record_links, moved, row, squeezed_from, squeezed, nexts_of, squeezable, squeeze_of}
+use Rattle.squeezing.specs.Preview.{dropped, preview_of}
 use Rattle.agreement.specs.Agreement.{OpenerBegins}
 
 -- Stream A
@@ -208,7 +209,7 @@ squeezed_a =
     0x02 ∷ 0x00 ∷ 0x06 ∷ 0x00 ∷ []
 
 squeezing : Unit {0}
-unfolding scopes check_of verdict_from verdict_on act_of counts_of deepest_of first_of lands_from record_links moved with_links has_next put row squeezed_from squeezed nexts_of squeeze_of
+unfolding scopes check_of verdict_from verdict_on act_of counts_of deepest_of first_of lands_from record_links moved with_links has_next put row squeezed_from squeezed nexts_of squeezable squeeze_of dropped preview_of
 squeezing = tt
 
 squeezed_is : squeezed stream_a 4 ≡ squeezed_a
@@ -227,3 +228,12 @@ squeeze_no_room = refl
 squeezed_twice : squeezed squeezed_a 4 ≡ squeezed_a
 unfolding squeezing squeezed_a
 squeezed_twice = refl
+
+-- Its preview (M-104): a filler is dropped, and what stood at 0x44 begins at 0x40, where the filler is that no record begins at.
+preview_moves : preview_of stream_a 4 0x44 ≡ Ok (record { length = 68; dropped = 1; at = 0x40 })
+unfolding squeezing
+preview_moves = refl
+
+preview_filler : Refuses (preview_of stream_a 4 0x40) 14 0 0
+unfolding squeezing
+preview_filler = refl

@@ -7,7 +7,8 @@ use constants::compiler::{cpu_type, source_language};
 use constants::kind::{ends_scope, starts_scope};
 use mitrelilac::{
     mitrelilac_annotation, mitrelilac_check, mitrelilac_climb, mitrelilac_decode, mitrelilac_jump,
-    mitrelilac_kind, mitrelilac_name, mitrelilac_register_entry, mitrelilac_step, mitrelilac_walk,
+    mitrelilac_kind, mitrelilac_name, mitrelilac_preview, mitrelilac_register_entry,
+    mitrelilac_step, mitrelilac_walk,
 };
 use names::{Part, parse_cstring, parse_u8_pascal_string};
 use record_words::field::{variant_number, variant_value};
@@ -100,6 +101,7 @@ pub fn answer(op: u64, arg: u64, start: u64, s: &[u8]) -> Words {
         41 => called([FREE; 66], |out| mitrelilac_walk(s, from, at, out)),
         42 => called([FREE; 66], |out| mitrelilac_jump(s, from, at, out)),
         43 => called([FREE; 66], |out| mitrelilac_climb(s, at, out)),
+        45 => called([FREE; 3], |out| mitrelilac_preview(s, from, at, out)),
         _ => words_of(u32::MAX, &[0]),
     }
 }
