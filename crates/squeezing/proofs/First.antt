@@ -19,12 +19,12 @@ use Rattle.check_nesting.specs.declared.Counts.{Counts}
 use Rattle.check_nesting.specs.Check.{Verdict, size, counts_of, check_of}
 use Rattle.check_nesting.specs.Nesting.{Nests, passes, opens, closes, NestsIn}
 use Rattle.check_nesting.proofs.Nesting.{good_nests, nests_good}
-use Rattle.squeezing.specs.Squeeze.{lands_from, first_in, first_of, row, nexts_of, squeezed_from, squeezed, squeezable}
+use Rattle.squeezing.specs.Squeeze.{lands, lands_from, first_in, first_of, row, nexts_of, squeezed_from, squeezed, squeezable}
 use Rattle.squeezing.specs.Landing.{landing_at}
 use Rattle.squeezing.specs.declared.plan.Front.{Front}
 use Rattle.squeezing.specs.declared.plan.Planned.{Planned}
 use Rattle.squeezing.specs.Preview.{dropped_by, dropped}
-use Rattle.squeezing.specs.Plan.{front_of, squeezed_length, plan_of}
+use Rattle.squeezing.specs.Plan.{front_of, squeezed_length, planned, plan_of}
 use Rattle.squeezing.proofs.Moved.{moved_length}
 use Rattle.squeezing.proofs.Squeezable.{refused}
 
@@ -86,6 +86,7 @@ fillers_are s start = by (scan_of s start).step refl
     by (Ok (N.End p)) e = rw (read_by s start (Ok (N.End p)) e) (omega arith)
     by (Err x) e = rw (read_by s start (Err x) e) (omega arith)
 
+-- a refusal of the check is the plan's
 pub check_refused : (s : List ℕ) (start : ℕ) {e : Refusal} → Err e ≡ check_of s start → Err e ≡ plan_of s start
 unfolding plan_of squeezable
 check_refused s start p = rw (sym p) refl
@@ -116,10 +117,10 @@ module _ (s : List ℕ) (start : ℕ) {c : Counts} (ok : check_of s start ≡ Ok
   unfolding squeezed squeezed_from row lands_from
   squeezed_is = same_rows (λ rs. squeezed_from s (first_of s start) rs ≡ squeezed s start) (λ r rs e. e) refl
 
-  nexts_are : nexts_of (landing_at s (first_of s start)) (read_of s (first_of s start)).recs ≡ nexts_of (lands_from (first_of s start) (read_of s start).recs) (read_of s start).recs
+  nexts_are : nexts_of (landing_at s (first_of s start)) (read_of s (first_of s start)).recs ≡ nexts_of (lands s start) (read_of s start).recs
   unfolding nexts_of lands_from
   nexts_are =
-      same_rows (λ rs. nexts_of (lands_from (first_of s start) rs) rs ≡ nexts_of (lands_from (first_of s start) (read_of s start).recs) (read_of s start).recs) (λ r rs e. e) refl
+      same_rows (λ rs. nexts_of (lands_from (first_of s start) rs) rs ≡ nexts_of (lands s start) (read_of s start).recs) (λ r rs e. e) refl
 
   first_nests : Nests (read_of s (first_of s start)).recs []
   first_nests = same_rows (λ rs. Nests rs []) (λ r rs n. nests_bare n) nesting.nests
@@ -132,9 +133,9 @@ module _ (s : List ℕ) (start : ℕ) {c : Counts} (ok : check_of s start ≡ Ok
       omega (arith, length-append (take (first_of s start) s) (row s to rs), length-take-le (first_of s start) s first_within, row_length s to rs (wholes s (first_of s start)))
 
   -- and find each of them where it lands
-  lands_are : (i : ℕ) → landing_at s (first_of s start) i ≡ lands_from (first_of s start) (read_of s start).recs i
+  lands_are : (i : ℕ) → landing_at s (first_of s start) i ≡ lands s start i
   unfolding lands_from
-  lands_are i = same_rows (λ rs. lands_from (first_of s start) rs i ≡ lands_from (first_of s start) (read_of s start).recs i) (λ r rs e. e) refl
+  lands_are i = same_rows (λ rs. lands_from (first_of s start) rs i ≡ lands s start i) (λ r rs e. e) refl
 
   -- the plan's length is that of the squeezed stream
   planned_length : squeezed_length s (first_of s start) ≡ result_and (squeezable s start) (Ok (length (squeezed s start)))
@@ -159,7 +160,7 @@ module _ (s : List ℕ) (start : ℕ) {c : Counts} (ok : check_of s start ≡ Ok
     pub written : squeezed_from s at (read_of s at).recs ≡ squeezed s start
     written = ap (λ n. squeezed_from s n (read_of s n).recs) f ∙ squeezed_is
 
-    pub found : (i : ℕ) → lands_from at (read_of s at).recs i ≡ lands_from (first_of s start) (read_of s start).recs i
+    pub found : (i : ℕ) → lands_from at (read_of s at).recs i ≡ lands s start i
     found i = ap (λ n. landing_at s n i) f ∙ lands_are i
 
   -- and of the front
@@ -192,7 +193,6 @@ module _ (s : List ℕ) (start : ℕ) {c : Counts} (ok : check_of s start ≡ Ok
         by left (squeezable s start) (planned_by (Ok n) p)
       where
         by : c.fillers - front.fillers ≡ dropped s start → (v : Verdict) → Ok n ≡ result_and v (Ok (length (squeezed s start))) →
-            ◌≡◌ {A = Result Planned Refusal} (Ok (record { first = front.first; length = n; dropped = c.fillers - front.fillers }))
-            (result_and v (Ok (record { first = first_of s start; length = length (squeezed s start); dropped = dropped s start })))
+            ◌≡◌ {A = Result Planned Refusal} (Ok (record { first = front.first; length = n; dropped = c.fillers - front.fillers })) (result_and v (Ok (planned s start)))
         by left (Ok u) q = let long : n ≡ length (squeezed s start) = cc in λ i. Ok (record { first = front_first i; length = long i; dropped = left i })
         by left (Err x) q = cc

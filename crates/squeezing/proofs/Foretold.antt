@@ -1,6 +1,6 @@
 -- A preview says what a squeeze gives.
 -- Assumes nothing.
-use Rattle.std.proofs.Common.{ℕ, ◌+◌, ◌≡◌, refl, sym, ap, ◌∙◌, arith, List, [], ◌∷◌, inl, inr, length, Option, None, Some, Result, Ok, Err}
+use Rattle.std.proofs.Common.{ℕ, ◌+◌, ◌≡◌, refl, sym, ap, ◌∙◌, arith, List, [], ◌∷◌, inl, inr, Option, None, Some, Result, Ok, Err}
 use Rattle.std.specs.Prelude.{sum_by}
 use Rattle.std.specs.Result.{result_and}
 use Rattle.std.proofs.lemmas.Grind.{common_steps}
@@ -12,9 +12,9 @@ use Rattle.iter.specs.declared.Next.{Next}
 use Rattle.iter.specs.declared.Next.TheVariants as N
 use Rattle.iter.proofs.Reading.{read_by}
 use Rattle.check_nesting.specs.Check.{Verdict, size, counts_of}
-use Rattle.squeezing.specs.Squeeze.{lands_from, first_of, squeezed, squeezable, squeeze_of}
+use Rattle.squeezing.specs.Squeeze.{lands, lands_from, first_of, squeezed, squeezable, squeeze_of}
 use Rattle.squeezing.specs.Squeezes.{NoFillers}
-use Rattle.squeezing.specs.Preview.{dropped, preview_at, preview_of}
+use Rattle.squeezing.specs.Preview.{gain, preview_at, preview_of}
 use Rattle.squeezing.specs.Foretells.{Foretold, Foretells}
 use Rattle.squeezing.proofs.Squeezed.{Readings, squeezed_readings}
 use Rattle.squeezing.proofs.Kept.{same_record}
@@ -37,39 +37,38 @@ unfolding counts_of
 left_in_front s start t q = rw q.read (omega (arith, sum_by-cons (λ r. r.fillers) q.first q.others, no_fillers_sum q.others q.no_fillers, q.front))
 
 module _ (s : List ℕ) (start i : ℕ) where
-  -- a record that lands begins there, in the squeezed stream
-  foretold : (at : ℕ) → squeezable s start ≡ Ok tt → lands_from (first_of s start) (read_of s start).recs i ≡ Some at → Readings s start (squeezed s start) →
-      Foretold s start i (record { length = length (squeezed s start); dropped = dropped s start; at = at })
+  -- where a record lands there is one
+  readings : {at : ℕ} → lands s start i ≡ Some at → Readings s start (squeezed s start)
+  unfolding lands_from
+  readings {at} there = by (scan_of s start).step refl
+    where
+      none : (read_of s start).recs ≡ [] → Readings s start (squeezed s start)
+      none e = let k : None ≡ Some at = ap (λ rs. lands_from (first_of s start) rs i) (sym e) ∙ there in cc
+
+      by : (n : Result Next Refusal) → (scan_of s start).step ≡ n → Readings s start (squeezed s start)
+      by (Ok (N.Record it)) e = squeezed_readings s start e
+      by (Ok (N.End p)) e = none (ap (λ (r : Reading). r.recs) (read_by s start (Ok (N.End p)) e))
+      by (Err x) e = none (ap (λ (r : Reading). r.recs) (read_by s start (Err x) e))
+
+  -- it begins there, in the squeezed stream
+  foretold : (at : ℕ) → squeezable s start ≡ Ok tt → lands s start i ≡ Some at → Readings s start (squeezed s start) → Foretold s start i (gain s start at)
   unfolding first_of
   foretold at can there q =
       record {
         with_room = λ room l. fits s start can l;
         with_less = λ room l. too_long s start can l;
-        lands = rw (q.records, q.read) (same_record i at q.landed (rw q.records at there));
+        same_record = rw (q.records, q.read) (same_record i at q.landed (rw q.records at there));
         fewer = omega (arith, fillers_are s start, left_in_front s start (squeezed s start) q);
       }
-
-  foretold_there : (at : ℕ) → squeezable s start ≡ Ok tt → lands_from (first_of s start) (read_of s start).recs i ≡ Some at →
-      Foretold s start i (record { length = length (squeezed s start); dropped = dropped s start; at = at })
-  unfolding lands_from
-  foretold_there at can there = by (scan_of s start).step refl
-    where
-      none : (read_of s start).recs ≡ [] → Foretold s start i (record { length = length (squeezed s start); dropped = dropped s start; at = at })
-      none e = let k : None ≡ Some at = ap (λ rs. lands_from (first_of s start) rs i) (sym e) ∙ there in cc
-
-      by : (n : Result Next Refusal) → (scan_of s start).step ≡ n → Foretold s start i (record { length = length (squeezed s start); dropped = dropped s start; at = at })
-      by (Ok (N.Record it)) e = foretold at can there (squeezed_readings s start e)
-      by (Ok (N.End p)) e = none (ap (λ (r : Reading). r.recs) (read_by s start (Ok (N.End p)) e))
-      by (Err x) e = none (ap (λ (r : Reading). r.recs) (read_by s start (Err x) e))
 
   pub preview_foretells : Foretells s start i (preview_of s start i)
   unfolding preview_of squeeze_of
   preview_foretells = by (squeezable s start) refl
     where
-      on : squeezable s start ≡ Ok tt → (at : Option ℕ) → lands_from (first_of s start) (read_of s start).recs i ≡ at → Foretells s start i (preview_at s start at)
-      on can (Some at) there = foretold_there at can there
+      on : squeezable s start ≡ Ok tt → (at : Option ℕ) → lands s start i ≡ at → Foretells s start i (preview_at s start at)
+      on can (Some at) there = foretold at can there (readings there)
       on can None there = inr (refl, lands_nowhere (read_of s start).recs (first_of s start) i there)
 
-      by : (v : Verdict) → squeezable s start ≡ v → Foretells s start i (result_and v (preview_at s start (lands_from (first_of s start) (read_of s start).recs i)))
+      by : (v : Verdict) → squeezable s start ≡ v → Foretells s start i (result_and v (preview_at s start (lands s start i)))
       by (Ok u) can = on can _ refl
       by (Err e) v = inl (λ room. rw v refl)

@@ -8,12 +8,12 @@ use Rattle.common.specs.Bytes.{put}
 use Rattle.iter.specs.Reading.{read_of}
 use Rattle.check_nesting.specs.Check.{Verdict}
 use Rattle.check_nesting.specs.Nesting.{Nests}
-use Rattle.squeezing.specs.Squeeze.{lands_from, first_of, squeezed_from, squeezed, squeezable, squeeze_of}
+use Rattle.squeezing.specs.Squeeze.{lands, lands_from, first_of, squeezed_from, squeezed, squeezable, squeeze_of}
 use Rattle.squeezing.specs.Squeezes.{Squeezes}
-use Rattle.squeezing.specs.Plan.{plan_of}
+use Rattle.squeezing.specs.Plan.{planned, plan_of}
 use Rattle.squeezing.specs.Preview.{dropped, preview_at, preview_of}
 use Rattle.squeezing.specs.declared.plan.Planned.{Planned}
-use Rattle.squeezing.proofs.Squeezable.{Squeezable, squeezable_says, fits, too_long, refused}
+use Rattle.squeezing.proofs.Squeezable.{CanSqueeze, can_squeeze, fits, too_long, refused}
 use Rattle.squeezing.proofs.Squeezes.{squeezed_squeezes}
 use Rattle.squeezing.proofs.First as F
 
@@ -38,24 +38,24 @@ module _ (s : List ℕ) (start : ℕ) {p : Planned} (e : Ok p ≡ plan_of s star
   unfolding plan_of
   is_plan = by (squeezable s start) refl e
     where
-      by : (v : Verdict) → squeezable s start ≡ v → Ok p ≡ result_and v (Ok (record { first = first_of s start; length = length (squeezed s start); dropped = dropped s start })) → IsPlan s start p
+      by : (v : Verdict) → squeezable s start ≡ v → Ok p ≡ result_and v (Ok (planned s start)) → IsPlan s start p
       by (Ok u) v q = record { can = v; first = cc; length = cc; dropped = cc }
       by (Err x) v q = cc
 
-  says : Squeezable s start
-  says = squeezable_says s start is_plan.can
+  can : CanSqueeze s start
+  can = can_squeeze s start is_plan.can
 
   pub within : p.first ≤ length s
-  within = F.within s start says.checked is_plan.first
+  within = F.within s start can.checked is_plan.first
 
   pub nests : Nests (read_of s p.first).recs []
-  nests = F.nests s start says.checked is_plan.first
+  nests = F.nests s start can.checked is_plan.first
 
   written : squeezed_from s p.first (read_of s p.first).recs ≡ squeezed s start
-  written = F.written s start says.checked is_plan.first
+  written = F.written s start can.checked is_plan.first
 
-  pub found : (i : ℕ) → lands_from p.first (read_of s p.first).recs i ≡ lands_from (first_of s start) (read_of s start).recs i
-  found = F.found s start says.checked is_plan.first
+  found : (i : ℕ) → lands_from p.first (read_of s p.first).recs i ≡ lands s start i
+  found = F.found s start can.checked is_plan.first
 
   pub room : (n : ℕ) → p.length ≤ n → length (squeezed_from s p.first (read_of s p.first).recs) ≤ n
   room n l = omega (arith, ap length written, is_plan.length)

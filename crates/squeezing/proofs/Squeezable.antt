@@ -8,13 +8,13 @@ use Rattle.common.specs.declared.Refusal.TheVariants.{NoRoom}
 use Rattle.iter.specs.Reading.{read_of}
 use Rattle.check_nesting.specs.declared.Counts.{Counts}
 use Rattle.check_nesting.specs.Check.{Verdict, check_of}
-use Rattle.squeezing.specs.Squeeze.{lands_from, first_of, nexts_of, squeezed, squeezable, squeeze_of}
+use Rattle.squeezing.specs.Squeeze.{lands, nexts_of, squeezed, squeezable, squeeze_of}
 
 -- it passes the check, and its nexts name records
-pub record Squeezable (s : List ℕ) (start : ℕ) : Type 0 where
+pub record CanSqueeze (s : List ℕ) (start : ℕ) : Type 0 where
   pub counts : Counts
   pub checked : check_of s start ≡ Ok counts
-  pub nexts : nexts_of (lands_from (first_of s start) (read_of s start).recs) (read_of s start).recs ≡ Ok tt
+  pub nexts : nexts_of (lands s start) (read_of s start).recs ≡ Ok tt
 
 -- a refusal goes on, whatever comes behind it
 pub refused : {A B : Type 0} {e : Refusal} (v : Verdict) (a : A) (b : Result B Refusal) → Err e ≡ result_and v (Ok a) → Err e ≡ result_and v b
@@ -22,17 +22,17 @@ refused (Ok u) a b p = cc
 refused (Err x) a b p = cc
 
 module _ (s : List ℕ) (start : ℕ) where
-  pub squeezable_says : squeezable s start ≡ Ok tt → Squeezable s start
+  pub can_squeeze : squeezable s start ≡ Ok tt → CanSqueeze s start
   unfolding squeezable
-  squeezable_says = by (check_of s start) refl
+  can_squeeze = by (check_of s start) refl
     where
-      by : (c : Result Counts Refusal) → check_of s start ≡ c → result_and c (nexts_of (lands_from (first_of s start) (read_of s start).recs) (read_of s start).recs) ≡ Ok tt → Squeezable s start
+      by : (c : Result Counts Refusal) → check_of s start ≡ c → result_and c (nexts_of (lands s start) (read_of s start).recs) ≡ Ok tt → CanSqueeze s start
       by (Ok n) e v = record { counts = n; checked = e; nexts = v }
       by (Err x) e v = cc
 
-  pub says_squeezable : Squeezable s start → squeezable s start ≡ Ok tt
+  pub squeezable_is : CanSqueeze s start → squeezable s start ≡ Ok tt
   unfolding squeezable
-  says_squeezable q = rw (q.checked, q.nexts) refl
+  squeezable_is q = rw (q.checked, q.nexts) refl
 
   -- with room enough, or less
   module _ (can : squeezable s start ≡ Ok tt) where

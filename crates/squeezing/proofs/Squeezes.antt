@@ -15,7 +15,7 @@ use Rattle.squeezing.specs.Squeeze.{lands_from, first_in, first_of, row, moved_l
 use Rattle.squeezing.specs.Squeezes.{Squeezes}
 use Rattle.squeezing.proofs.Squeezed.{Readings, squeezed_readings}
 use Rattle.squeezing.proofs.Kept.{IsNamed, same_record, each_moves, each_kept}
-use Rattle.squeezing.proofs.Squeezable.{Squeezable, squeezable_says, says_squeezable, fits}
+use Rattle.squeezing.proofs.Squeezable.{CanSqueeze, can_squeeze, squeezable_is, fits}
 use Rattle.squeezing.proofs.Twice.{nexts_named, squeezed_again}
 
 -- a stream that squeezes to itself does so where it has its own room
@@ -29,7 +29,7 @@ copied_squeezes s start can none =
     let whole : squeezed s start ≡ s = (λ i. squeezed_from s (first_in s (none i)) (none i)) ∙ append-nil (take (length s) s) ∙ take_all (length s) s (omega arith) in
     rw whole
     (record {
-      passes = rw (squeezable_says s start can).checked;
+      passes = rw (can_squeeze s start can).checked;
       records = rw none tt;
       no_fillers = rw none tt;
       before = refl;
@@ -37,7 +37,7 @@ copied_squeezes s start can none =
       same = whole;
     })
 
-readings_squeeze : (s : List ℕ) (start : ℕ) (t : List ℕ) → Squeezable s start → Readings s start t → Squeezes s start t
+readings_squeeze : (s : List ℕ) (start : ℕ) (t : List ℕ) → CanSqueeze s start → Readings s start t → Squeezes s start t
 unfolding first_of
 readings_squeeze s start t can q =
     let to = lands_from q.r.index (q.r ∷ q.rs) in
@@ -54,7 +54,7 @@ readings_squeeze s start t can q =
       records = rw (q.records, q.read) (each_kept to q.small _ _ (λ x y. same_record x y q.landed) q.landed named named_nexts);
       no_fillers = rw q.read (q.no_fillers, refl);
       before = q.before;
-      again = own_room t start (says_squeezable t start (record { counts = _; checked = passes; nexts = nexts_named s start t q named named_nexts })) same;
+      again = own_room t start (squeezable_is t start (record { counts = _; checked = passes; nexts = nexts_named s start t q named named_nexts })) same;
       same = same;
     }
 
@@ -62,6 +62,6 @@ pub squeezed_squeezes : (s : List ℕ) (start : ℕ) → squeezable s start ≡ 
 squeezed_squeezes s start can = by (scan_of s start).step refl
   where
     by : (n : Result Next Refusal) → (scan_of s start).step ≡ n → Squeezes s start (squeezed s start)
-    by (Ok (N.Record it)) e = readings_squeeze s start (squeezed s start) (squeezable_says s start can) (squeezed_readings s start e)
+    by (Ok (N.Record it)) e = readings_squeeze s start (squeezed s start) (can_squeeze s start can) (squeezed_readings s start e)
     by (Ok (N.End p)) e = copied_squeezes s start can (ap (λ (r : Reading). r.recs) (read_by s start (Ok (N.End p)) e))
     by (Err x) e = copied_squeezes s start can (ap (λ (r : Reading). r.recs) (read_by s start (Err x) e))

@@ -14,7 +14,7 @@ use Rattle.squeezing.specs.Squeezes.{SameRecord}
 pub record Foretold (s : List ℕ) (start i : ℕ) (g : Gain) : Type 0 where
   pub with_room : (room : ℕ) → g.length ≤ room → squeeze_of s start room ≡ Ok g.length
   pub with_less : (room : ℕ) → room < g.length → squeeze_of s start room ≡ Err NoRoom
-  pub lands : SameRecord (read_of s start).recs (read_of (squeezed s start) start).recs i g.at
+  pub same_record : SameRecord (read_of s start).recs (read_of (squeezed s start) start).recs i g.at
   pub fewer : (counts_of (read_of s start)).fillers ≡ g.dropped + (counts_of (read_of (squeezed s start) start)).fillers
 
 -- Where it refuses: squeezing refuses alike, whatever the room; or it is 14, and no record begins at i.

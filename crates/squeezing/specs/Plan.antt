@@ -26,6 +26,9 @@ Readable bytes = nesting_role_of bytes ≡ Opens → IsSome (links_of bytes)
 unfoldable pub squeezed_length : List ℕ → ℕ → Result ℕ Refusal
 squeezed_length s first = result_and (nexts_of (landing_at s first) (read_of s first).recs) (Ok (first + sum_by size (read_of s first).recs))
 
+abbrev pub planned : List ℕ → ℕ → Planned
+planned s start = record { first = first_of s start; length = length (squeezed s start); dropped = dropped s start }
+
 -- the plan, where the stream can be squeezed
 unfoldable pub plan_of : List ℕ → ℕ → Result Planned Refusal
-plan_of s start = result_and (squeezable s start) (Ok (record { first = first_of s start; length = length (squeezed s start); dropped = dropped s start }))
+plan_of s start = result_and (squeezable s start) (Ok (planned s start))
