@@ -14,7 +14,7 @@ use Rattle.squeezing.specs.Squeeze.{first_of, nexts_of, squeezed, squeezable}
 use Rattle.squeezing.specs.Preview.{dropped}
 use Rattle.squeezing.specs.Landing.{landing_at}
 
--- What stays in front: what stands before the first record, and with it the fillers that the first step passes over.
+-- what stays in front of the squeezed stream: how many bytes, and the fillers that the first step passes over
 unfoldable pub front_of : List ℕ → ℕ → Front
 front_of s start = record { first = first_of s start; fillers = (scan_of s start).fillers }
 
