@@ -1,6 +1,6 @@
 -- The check passes exactly where reading ends at End and its records nest.
 -- Assumes nothing.
-use Rattle.std.proofs.Common.{ℕ, ◌<◌, ◌≡◌, refl, ap, ◌∙◌, arith, List, [], ◌∷◌, Option, None, Some, Result, Ok, Err}
+use Rattle.std.proofs.Common.{ℕ, ◌<◌, ◌≡◌, refl, sym, ap, ◌∙◌, arith, List, [], ◌∷◌, Option, None, Some, Result, Ok, Err}
 use Rattle.std.proofs.lemmas.Grind.{common_steps}
 use mathlib.Core.List.{tail}
 use Rattle.common.specs.declared.Refusal.{Refusal}
@@ -86,3 +86,7 @@ unfolding check_of verdict_from
 nests_good s start k =
     ap (λ (v : Verdict). answer_by v (counts_of (read_of s start)))
     (ap (λ (x : Ending). verdict_on x (read_of s start).recs []) k.at_end ∙ nests_passes k.nests)
+
+-- what the check answers are the counts
+pub counts_are : (s : List ℕ) (start : ℕ) {n : Counts} → check_of s start ≡ Ok n → n ≡ counts_of (read_of s start)
+counts_are s start {n} q = let e : ◌≡◌ {A = Result Counts Refusal} (Ok n) (Ok (counts_of (read_of s start))) = sym q ∙ nests_good s start (good_nests s start q) in cc

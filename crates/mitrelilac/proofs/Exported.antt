@@ -56,7 +56,7 @@ unfolding written
 call_squeezes (Ok n) s start buffer g squeezes z = rw g.words squeezes
 call_squeezes (Err e) s start buffer g squeezes z = absurd (omega (arith, number_above e, g.number))
 
--- a refusal leaves its number, and its position and detail
+-- what the words of a preview say of the squeeze
 pub call_foretells : (r : Result Gain Refusal) (s : List ℕ) (start i : ℕ) {returned : ℕ} {before after : List ℕ} →
     Replied (preview_reply r) returned before after → Foretells s start i r → CallForetells s start i (call returned after)
 unfolding written

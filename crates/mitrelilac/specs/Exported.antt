@@ -34,8 +34,10 @@ CallSqueezes s start squeeze buffer = squeeze.returned ≡ 0 → Squeezes s star
 -- Preview: where it returned 0, its words are what squeezing the same stream from the same start gives. Where it returned neither 0 nor 14,
 -- squeezing returns the same number and writes the same two words, whatever the room.
 pub record CallForetells (s : List ℕ) (start i : ℕ) (preview : Call) : Type 0 where
-  pub answered : preview.returned ≡ 0 → Foretold s start i (record { length = get_or preview.out 0 0; dropped = get_or preview.out 1 0; at = get_or preview.out 2 0 })
-  pub refused : ¬ (preview.returned ≡ 0) → ¬ (preview.returned ≡ 14) → (room : ℕ) → squeeze_reply (squeeze_of s start room) ≡ record { number = preview.returned; words = take 2 preview.out }
+  pub answered : preview.returned ≡ 0 →
+      Foretold s start i (record { length = get_or preview.out 0 0; dropped = get_or preview.out 1 0; at = get_or preview.out 2 0 })
+  pub refused : ¬ (preview.returned ≡ 0) → ¬ (preview.returned ≡ 14) →
+      (room : ℕ) → squeeze_reply (squeeze_of s start room) ≡ record { number = preview.returned; words = take 2 preview.out }
 
 -- The words of a finder's answer: out[0] is its count, and from out[1] on, 65 words, stand how many scopes there are and the 64 places
 -- (`chain_words`).

@@ -1,4 +1,5 @@
--- Reading from the first record on gives what reading from the start gives, but for the fillers before it: the loops do what the squeeze is.
+-- Reading from the first record on gives what reading from the start gives, but for the fillers before it: the loops do what the squeeze is, and the
+-- plan is what they find.
 -- Assumes nothing.
 use Rattle.std.proofs.Common.{ℕ, ◌+◌, ◌-◌, ◌≤◌, ◌≡◌, refl, sym, ap, ◌∙◌, subst, arith, List, [], ◌∷◌, length, length-append, length-drop, length-take-le, take, drop, Option, Result, Ok, Err}
 use Rattle.std.specs.Prelude.{sum_by}
@@ -18,8 +19,8 @@ use Rattle.check_nesting.specs.declared.act.Open.{Open}
 use Rattle.check_nesting.specs.declared.Counts.{Counts}
 use Rattle.check_nesting.specs.Check.{Verdict, size, counts_of, check_of}
 use Rattle.check_nesting.specs.Nesting.{Nests, passes, opens, closes, NestsIn}
-use Rattle.check_nesting.proofs.Nesting.{good_nests, nests_good}
-use Rattle.squeezing.specs.Squeeze.{lands, lands_from, first_in, first_of, row, nexts_of, squeezed_from, squeezed, squeezable}
+use Rattle.check_nesting.proofs.Nesting.{good_nests, counts_are}
+use Rattle.squeezing.specs.Squeeze.{landings, lands_from, first_in, first_of, row, nexts_of, squeezed_from, squeezed, squeezable}
 use Rattle.squeezing.specs.Landing.{landing_at}
 use Rattle.squeezing.specs.declared.plan.Front.{Front}
 use Rattle.squeezing.specs.declared.plan.Planned.{Planned}
@@ -117,10 +118,10 @@ module _ (s : List ℕ) (start : ℕ) {c : Counts} (ok : check_of s start ≡ Ok
   unfolding squeezed squeezed_from row lands_from
   squeezed_is = same_rows (λ rs. squeezed_from s (first_of s start) rs ≡ squeezed s start) (λ r rs e. e) refl
 
-  nexts_are : nexts_of (landing_at s (first_of s start)) (read_of s (first_of s start)).recs ≡ nexts_of (lands s start) (read_of s start).recs
+  nexts_are : nexts_of (landing_at s (first_of s start)) (read_of s (first_of s start)).recs ≡ nexts_of (landings s start) (read_of s start).recs
   unfolding nexts_of lands_from
   nexts_are =
-      same_rows (λ rs. nexts_of (lands_from (first_of s start) rs) rs ≡ nexts_of (lands s start) (read_of s start).recs) (λ r rs e. e) refl
+      same_rows (λ rs. nexts_of (lands_from (first_of s start) rs) rs ≡ nexts_of (landings s start) (read_of s start).recs) (λ r rs e. e) refl
 
   first_nests : Nests (read_of s (first_of s start)).recs []
   first_nests = same_rows (λ rs. Nests rs []) (λ r rs n. nests_bare n) nesting.nests
@@ -133,9 +134,9 @@ module _ (s : List ℕ) (start : ℕ) {c : Counts} (ok : check_of s start ≡ Ok
       omega (arith, length-append (take (first_of s start) s) (row s to rs), length-take-le (first_of s start) s first_within, row_length s to rs (wholes s (first_of s start)))
 
   -- and find each of them where it lands
-  lands_are : (i : ℕ) → landing_at s (first_of s start) i ≡ lands s start i
+  lands_are : (i : ℕ) → landing_at s (first_of s start) i ≡ landings s start i
   unfolding lands_from
-  lands_are i = same_rows (λ rs. lands_from (first_of s start) rs i ≡ lands s start i) (λ r rs e. e) refl
+  lands_are i = same_rows (λ rs. lands_from (first_of s start) rs i ≡ landings s start i) (λ r rs e. e) refl
 
   -- the plan's length is that of the squeezed stream
   planned_length : squeezed_length s (first_of s start) ≡ result_and (squeezable s start) (Ok (length (squeezed s start)))
@@ -143,11 +144,8 @@ module _ (s : List ℕ) (start : ℕ) {c : Counts} (ok : check_of s start ≡ Ok
   planned_length = let long = length_is ∙ ap length squeezed_is in (λ i. result_and (nexts_are i) (Ok (long i))) ∙ rw ok refl
 
   -- the check's fillers are those in front, and those that are dropped
-  check_counts : c ≡ counts_of (read_of s start)
-  check_counts = let e : ◌≡◌ {A = Result Counts Refusal} (Ok c) (Ok (counts_of (read_of s start))) = sym ok ∙ nests_good s start nesting in cc
-
   check_fillers : c.fillers ≡ (scan_of s start).fillers + dropped s start
-  check_fillers = ap (λ (n : Counts). n.fillers) check_counts ∙ fillers_are s start
+  check_fillers = ap (λ (n : Counts). n.fillers) (counts_are s start ok) ∙ fillers_are s start
 
   -- the same, as the calls say it, of the first record that was found
   module _ {at : ℕ} (f : at ≡ first_of s start) where
@@ -160,7 +158,7 @@ module _ (s : List ℕ) (start : ℕ) {c : Counts} (ok : check_of s start ≡ Ok
     pub written : squeezed_from s at (read_of s at).recs ≡ squeezed s start
     written = ap (λ n. squeezed_from s n (read_of s n).recs) f ∙ squeezed_is
 
-    pub found : (i : ℕ) → lands_from at (read_of s at).recs i ≡ lands s start i
+    pub found : (i : ℕ) → lands_from at (read_of s at).recs i ≡ landings s start i
     found i = ap (λ n. landing_at s n i) f ∙ lands_are i
 
   -- and of the front
@@ -176,8 +174,8 @@ module _ (s : List ℕ) (start : ℕ) {c : Counts} (ok : check_of s start ≡ Ok
     pub front_nests : Nests (read_of s front.first).recs []
     front_nests = nests front_first
 
-    pub fewer_in_front : front.fillers ≤ c.fillers
-    fewer_in_front = omega (arith, front_fillers, check_fillers)
+    pub front_counted : front.fillers ≤ c.fillers
+    front_counted = omega (arith, front_fillers, check_fillers)
 
     planned_by : (r : Result ℕ Refusal) → r ≡ squeezed_length s front.first → r ≡ result_and (squeezable s start) (Ok (length (squeezed s start)))
     planned_by r p = p ∙ ap (squeezed_length s) front_first ∙ planned_length

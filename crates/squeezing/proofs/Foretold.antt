@@ -1,22 +1,18 @@
 -- A preview says what a squeeze gives.
 -- Assumes nothing.
-use Rattle.std.proofs.Common.{ℕ, ◌+◌, ◌≡◌, refl, sym, ap, ◌∙◌, arith, List, [], ◌∷◌, inl, inr, Option, None, Some, Result, Ok, Err}
+use Rattle.std.proofs.Common.{ℕ, ◌+◌, ◌≡◌, refl, sym, ap, ◌∙◌, arith, List, [], ◌∷◌, inl, inr, length, Option, None, Some, Ok, Err}
 use Rattle.std.specs.Prelude.{sum_by}
 use Rattle.std.specs.Result.{result_and}
 use Rattle.std.proofs.lemmas.Grind.{common_steps}
 use Rattle.std.proofs.lemmas.List.Sums.{sum_by-cons}
-use Rattle.common.specs.declared.Refusal.{Refusal}
 use Rattle.iter.specs.Step.{scan_of}
-use Rattle.iter.specs.Reading.{Rec, Reading, OneOf, read_of}
-use Rattle.iter.specs.declared.Next.{Next}
-use Rattle.iter.specs.declared.Next.TheVariants as N
-use Rattle.iter.proofs.Reading.{read_by}
+use Rattle.iter.specs.Reading.{Rec, OneOf, read_of}
 use Rattle.check_nesting.specs.Check.{Verdict, size, counts_of}
-use Rattle.squeezing.specs.Squeeze.{lands, lands_from, first_of, squeezed, squeezable, squeeze_of}
+use Rattle.squeezing.specs.Squeeze.{landings, lands_from, first_of, squeezed, squeezable, squeeze_of}
 use Rattle.squeezing.specs.Squeezes.{NoFillers}
 use Rattle.squeezing.specs.Preview.{gain, preview_at, preview_of}
 use Rattle.squeezing.specs.Foretells.{Foretold, Foretells}
-use Rattle.squeezing.proofs.Squeezed.{Readings, squeezed_readings}
+use Rattle.squeezing.proofs.Squeezed.{Readings, read_or_none}
 use Rattle.squeezing.proofs.Kept.{same_record}
 use Rattle.squeezing.proofs.First.{fillers_are}
 use Rattle.squeezing.proofs.Squeezable.{fits, too_long}
@@ -38,20 +34,13 @@ left_in_front s start t q = rw q.read (omega (arith, sum_by-cons (λ r. r.filler
 
 module _ (s : List ℕ) (start i : ℕ) where
   -- where a record lands there is one
-  readings : {at : ℕ} → lands s start i ≡ Some at → Readings s start (squeezed s start)
+  readings : {at : ℕ} → landings s start i ≡ Some at → Readings s start (squeezed s start)
   unfolding lands_from
-  readings {at} there = by (scan_of s start).step refl
-    where
-      none : (read_of s start).recs ≡ [] → Readings s start (squeezed s start)
-      none e = let k : None ≡ Some at = ap (λ rs. lands_from (first_of s start) rs i) (sym e) ∙ there in cc
-
-      by : (n : Result Next Refusal) → (scan_of s start).step ≡ n → Readings s start (squeezed s start)
-      by (Ok (N.Record it)) e = squeezed_readings s start e
-      by (Ok (N.End p)) e = none (ap (λ (r : Reading). r.recs) (read_by s start (Ok (N.End p)) e))
-      by (Err x) e = none (ap (λ (r : Reading). r.recs) (read_by s start (Err x) e))
+  readings {at} there =
+      elim (read_or_none s start) [ inl q ↦ q | inr none ↦ absurd (let k : None ≡ Some at = ap (λ rs. lands_from (first_of s start) rs i) (sym none) ∙ there in cc) ]
 
   -- it begins there, in the squeezed stream
-  foretold : (at : ℕ) → squeezable s start ≡ Ok tt → lands s start i ≡ Some at → Readings s start (squeezed s start) → Foretold s start i (gain s start at)
+  foretold : (at : ℕ) → squeezable s start ≡ Ok tt → landings s start i ≡ Some at → Readings s start (squeezed s start) → Foretold s start i (gain s start at)
   unfolding first_of
   foretold at can there q =
       record {
@@ -65,10 +54,10 @@ module _ (s : List ℕ) (start i : ℕ) where
   unfolding preview_of squeeze_of
   preview_foretells = by (squeezable s start) refl
     where
-      on : squeezable s start ≡ Ok tt → (at : Option ℕ) → lands s start i ≡ at → Foretells s start i (preview_at s start at)
+      on : squeezable s start ≡ Ok tt → (at : Option ℕ) → landings s start i ≡ at → Foretells s start i (preview_at s start at)
       on can (Some at) there = foretold at can there (readings there)
-      on can None there = inr (refl, lands_nowhere (read_of s start).recs (first_of s start) i there)
+      on can None there = inr (refl, rw (fits s start can {room = length (squeezed s start)} (omega arith)) refl, lands_nowhere (read_of s start).recs (first_of s start) i there)
 
-      by : (v : Verdict) → squeezable s start ≡ v → Foretells s start i (result_and v (preview_at s start (lands s start i)))
+      by : (v : Verdict) → squeezable s start ≡ v → Foretells s start i (result_and v (preview_at s start (landings s start i)))
       by (Ok u) can = on can _ refl
       by (Err e) v = inl (λ room. rw v refl)

@@ -8,7 +8,7 @@ use Rattle.common.specs.Bytes.{put}
 use Rattle.iter.specs.Reading.{read_of}
 use Rattle.check_nesting.specs.Check.{Verdict}
 use Rattle.check_nesting.specs.Nesting.{Nests}
-use Rattle.squeezing.specs.Squeeze.{lands, lands_from, first_of, squeezed_from, squeezed, squeezable, squeeze_of}
+use Rattle.squeezing.specs.Squeeze.{landings, lands_from, first_of, squeezed_from, squeezed, squeezable, squeeze_of}
 use Rattle.squeezing.specs.Squeezes.{Squeezes}
 use Rattle.squeezing.specs.Plan.{planned, plan_of}
 use Rattle.squeezing.specs.Preview.{dropped, preview_at, preview_of}
@@ -54,11 +54,11 @@ module _ (s : List ℕ) (start : ℕ) {p : Planned} (e : Ok p ≡ plan_of s star
   written : squeezed_from s p.first (read_of s p.first).recs ≡ squeezed s start
   written = F.written s start can.checked is_plan.first
 
-  found : (i : ℕ) → lands_from p.first (read_of s p.first).recs i ≡ lands s start i
+  found : (i : ℕ) → lands_from p.first (read_of s p.first).recs i ≡ landings s start i
   found = F.found s start can.checked is_plan.first
 
-  pub room : (n : ℕ) → p.length ≤ n → length (squeezed_from s p.first (read_of s p.first).recs) ≤ n
-  room n l = omega (arith, ap length written, is_plan.length)
+  pub written_fits : (n : ℕ) → p.length ≤ n → length (squeezed_from s p.first (read_of s p.first).recs) ≤ n
+  written_fits n l = omega (arith, ap length written, is_plan.length)
 
   pub with_room : (n : ℕ) → p.length ≤ n → squeeze_of s start n ≡ Ok p.length
   with_room n l = fits s start is_plan.can (omega (arith, is_plan.length)) ∙ ap Ok (sym is_plan.length)

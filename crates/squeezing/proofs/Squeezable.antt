@@ -8,13 +8,13 @@ use Rattle.common.specs.declared.Refusal.TheVariants.{NoRoom}
 use Rattle.iter.specs.Reading.{read_of}
 use Rattle.check_nesting.specs.declared.Counts.{Counts}
 use Rattle.check_nesting.specs.Check.{Verdict, check_of}
-use Rattle.squeezing.specs.Squeeze.{lands, nexts_of, squeezed, squeezable, squeeze_of}
+use Rattle.squeezing.specs.Squeeze.{landings, nexts_of, squeezed, squeezable, squeeze_of}
 
 -- it passes the check, and its nexts name records
 pub record CanSqueeze (s : List ℕ) (start : ℕ) : Type 0 where
   pub counts : Counts
   pub checked : check_of s start ≡ Ok counts
-  pub nexts : nexts_of (lands s start) (read_of s start).recs ≡ Ok tt
+  pub nexts : nexts_of (landings s start) (read_of s start).recs ≡ Ok tt
 
 -- a refusal goes on, whatever comes behind it
 pub refused : {A B : Type 0} {e : Refusal} (v : Verdict) (a : A) (b : Result B Refusal) → Err e ≡ result_and v (Ok a) → Err e ≡ result_and v b
@@ -26,7 +26,7 @@ module _ (s : List ℕ) (start : ℕ) where
   unfolding squeezable
   can_squeeze = by (check_of s start) refl
     where
-      by : (c : Result Counts Refusal) → check_of s start ≡ c → result_and c (nexts_of (lands s start) (read_of s start).recs) ≡ Ok tt → CanSqueeze s start
+      by : (c : Result Counts Refusal) → check_of s start ≡ c → result_and c (nexts_of (landings s start) (read_of s start).recs) ≡ Ok tt → CanSqueeze s start
       by (Ok n) e v = record { counts = n; checked = e; nexts = v }
       by (Err x) e v = cc
 

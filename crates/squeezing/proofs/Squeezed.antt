@@ -1,11 +1,13 @@
 -- Steps over the squeezed stream yield the records one behind the other, their links moved, and nothing is passed over behind the first.
 -- Assumes nothing.
-use Rattle.std.proofs.Common.{ℕ, ◌+◌, ◌≤◌, ◌<◌, ◌^◌, ◌≡◌, refl, sym, ap, ◌∙◌, subst, arith, List, [], ◌∷◌, ◌++◌, length, take, drop, map, length-append, length-take-le, length-drop, drop_at, append_assoc, add-zero, take-take, eqb, Option, Ok}
+use Rattle.std.proofs.Common.{ℕ, ◌+◌, ◌≤◌, ◌<◌, ◌^◌, ◌≡◌, refl, sym, ap, ◌∙◌, subst, arith, List, [], ◌∷◌, ◌++◌, length, take, drop, map, length-append, length-take-le, length-drop, drop_at, append_assoc, add-zero, take-take, eqb, ◌⊎◌, inl, inr, Option, Result, Ok, Err}
 use Rattle.std.proofs.lemmas.Grind.{common_steps}
 use Rattle.std.proofs.lemmas.List.{take-append-le}
 use Rattle.constants.specs.Kind.{is_filler}
 use Rattle.iter.specs.Step.{scan_of}
 use Rattle.iter.specs.Reading.{Rec, Reading, rec_at, read_of}
+use Rattle.common.specs.declared.Refusal.{Refusal}
+use Rattle.iter.specs.declared.Next.{Next}
 use Rattle.iter.specs.declared.Record.{Record}
 use Rattle.iter.specs.declared.Next.TheVariants as N
 use Rattle.iter.proofs.Reading.{step_fits, own, read_by}
@@ -84,7 +86,7 @@ pub record Readings (s : List ℕ) (start : ℕ) (t : List ℕ) : Type 0 where
   pub wholes : Wholes s (r ∷ rs)
   pub left : drop r.index t ≡ R.row (pieces s (lands_from r.index (r ∷ rs)) (r ∷ rs))
 
-pub squeezed_readings : (s : List ℕ) (start : ℕ) {it : Record} → (scan_of s start).step ≡ Ok (N.Record it) → Readings s start (squeezed s start)
+squeezed_readings : (s : List ℕ) (start : ℕ) {it : Record} → (scan_of s start).step ≡ Ok (N.Record it) → Readings s start (squeezed s start)
 unfolding squeezed squeezed_from first_of
 squeezed_readings s start {it} e =
     let r = rec_at s (scan_of s start) it in
@@ -116,3 +118,12 @@ squeezed_readings s start {it} e =
       left = ap (drop it.index) is ∙ drop_at (take it.index s) _ it.index front;
       before = ap (take start) is ∙ take-append-le start (take it.index s) _ (omega arith) ∙ take-take start it.index s (omega arith);
     }
+
+-- a stream has a first record, or yields none
+pub read_or_none : (s : List ℕ) (start : ℕ) → Readings s start (squeezed s start) ⊎ ((read_of s start).recs ≡ [])
+read_or_none s start = by (scan_of s start).step refl
+  where
+    by : (n : Result Next Refusal) → (scan_of s start).step ≡ n → Readings s start (squeezed s start) ⊎ ((read_of s start).recs ≡ [])
+    by (Ok (N.Record it)) e = inl (squeezed_readings s start e)
+    by (Ok (N.End p)) e = inr (ap (λ (x : Reading). x.recs) (read_by s start (Ok (N.End p)) e))
+    by (Err x) e = inr (ap (λ (y : Reading). y.recs) (read_by s start (Err x) e))

@@ -1,19 +1,14 @@
 -- Squeezing leaves a stream that passes the check, with the same records but for moved links, and no filler behind the first.
 -- Assumes nothing.
-use Rattle.std.proofs.Common.{ℕ, ◌≡◌, refl, sym, ap, ◌∙◌, arith, List, [], ◌∷◌, append-nil, length, take, take_all, Result, Ok, Err}
-use Rattle.common.specs.declared.Refusal.{Refusal}
-use Rattle.iter.specs.Step.{scan_of}
-use Rattle.iter.specs.Reading.{Reading, read_of}
-use Rattle.iter.specs.declared.Next.{Next}
-use Rattle.iter.specs.declared.Next.TheVariants as N
-use Rattle.iter.proofs.Reading.{read_by}
+use Rattle.std.proofs.Common.{ℕ, ◌≡◌, refl, sym, ap, ◌∙◌, arith, inl, inr, List, [], ◌∷◌, append-nil, length, take, take_all, Ok}
+use Rattle.iter.specs.Reading.{read_of}
 use Rattle.iter.proofs.Records.{Rising, rising}
 use Rattle.check_nesting.specs.Nesting.{Nests}
 use Rattle.check_nesting.proofs.Nesting.{good_nests, nests_good}
 use Rattle.check_nesting.proofs.Moving.{each_named, nests_moved}
 use Rattle.squeezing.specs.Squeeze.{lands_from, first_in, first_of, row, moved_link, squeezed_from, squeezed, nexts_of, squeezable, squeeze_of}
 use Rattle.squeezing.specs.Squeezes.{Squeezes}
-use Rattle.squeezing.proofs.Squeezed.{Readings, squeezed_readings}
+use Rattle.squeezing.proofs.Squeezed.{Readings, read_or_none}
 use Rattle.squeezing.proofs.Kept.{IsNamed, same_record, each_moves, each_kept}
 use Rattle.squeezing.proofs.Squeezable.{CanSqueeze, can_squeeze, squeezable_is, fits}
 use Rattle.squeezing.proofs.Twice.{nexts_named, squeezed_again}
@@ -59,9 +54,5 @@ readings_squeeze s start t can q =
     }
 
 pub squeezed_squeezes : (s : List ℕ) (start : ℕ) → squeezable s start ≡ Ok tt → Squeezes s start (squeezed s start)
-squeezed_squeezes s start can = by (scan_of s start).step refl
-  where
-    by : (n : Result Next Refusal) → (scan_of s start).step ≡ n → Squeezes s start (squeezed s start)
-    by (Ok (N.Record it)) e = readings_squeeze s start (squeezed s start) (can_squeeze s start can) (squeezed_readings s start e)
-    by (Ok (N.End p)) e = copied_squeezes s start can (ap (λ (r : Reading). r.recs) (read_by s start (Ok (N.End p)) e))
-    by (Err x) e = copied_squeezes s start can (ap (λ (r : Reading). r.recs) (read_by s start (Err x) e))
+squeezed_squeezes s start can =
+    elim (read_or_none s start) [ inl q ↦ readings_squeeze s start (squeezed s start) (can_squeeze s start can) q | inr none ↦ copied_squeezes s start can none ]

@@ -13,7 +13,7 @@ use Rattle.links.specs.Links.{with_links}
 use Rattle.links.proofs.Relinked.{with_links_again}
 use Rattle.check_nesting.specs.Check.{size}
 use Rattle.check_nesting.proofs.Moving.{Named, EachNamed}
-use Rattle.squeezing.specs.Squeeze.{lands, lands_from, moved_link, moved_links, links_by_role, record_links, moved_by, moved, next_by, nexts_of, row, first_of, squeezed_from, squeezed}
+use Rattle.squeezing.specs.Squeeze.{landings, lands_from, moved_link, moved_links, links_by_role, record_links, moved_by, moved, next_by, nexts_of, row, first_of, squeezed_from, squeezed}
 use Rattle.squeezing.proofs.Moved.{record_links_is, moved_is, moved_role, moved_length, moved_opener, links_moved}
 use Rattle.squeezing.proofs.Squeezed.{pieces, sound, Landed, none, both, Readings}
 use Rattle.squeezing.proofs.Kept.{IsNamed}
@@ -116,7 +116,7 @@ module _ (s : List ℕ) (start : ℕ) (t : List ℕ) (q : Readings s start t) wh
     stay : EachStays to again q.small place_stays (q.first ∷ q.others)
     stay = each_stays to again q.small place_stays q.landed named nexts
 
-    pub nexts_named : nexts_of (lands t start) (read_of t start).recs ≡ Ok tt
+    pub nexts_named : nexts_of (landings t start) (read_of t start).recs ≡ Ok tt
     nexts_named = rw (first_is, q.read) (nexts_again to again q.small place_stays (q.first ∷ q.others) stay)
 
     pub squeezed_again : squeezed t start ≡ t

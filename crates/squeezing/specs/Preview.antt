@@ -5,7 +5,7 @@ use Rattle.common.specs.declared.Refusal.{Refusal}
 use Rattle.common.specs.declared.Refusal.TheVariants.{NothingThere}
 use Rattle.iter.specs.Reading.{Rec, Last, read_of}
 use Rattle.squeezing.specs.declared.Gain.{Gain}
-use Rattle.squeezing.specs.Squeeze.{lands, squeezed, squeezable}
+use Rattle.squeezing.specs.Squeeze.{landings, squeezed, squeezable}
 
 -- "the number of fillers dropped": of those that steps pass over, the ones behind the first record
 abbrev pub dropped_by : List Rec → Last → ℕ
@@ -26,4 +26,4 @@ preview_at s start None = Err NothingThere
 
 -- "its refusals come likewise, except 18"; 14 "after them"
 unfoldable pub preview_of : List ℕ → ℕ → ℕ → Result Gain Refusal
-preview_of s start i = result_and (squeezable s start) (preview_at s start (lands s start i))
+preview_of s start i = result_and (squeezable s start) (preview_at s start (landings s start i))

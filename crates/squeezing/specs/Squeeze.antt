@@ -75,12 +75,12 @@ nexts_of to (r ∷ rs) =
     cond (eqb next 0 || is_some (to next)) (nexts_of to rs) (Err (WrongNext r.index))
 
 -- where each record lands: the first where it is
-abbrev pub lands : List ℕ → ℕ → ℕ → Option ℕ
-lands s start = lands_from (first_of s start) (read_of s start).recs
+abbrev pub landings : List ℕ → ℕ → ℕ → Option ℕ
+landings s start = lands_from (first_of s start) (read_of s start).recs
 
 -- "Checks: after the check's own, 17": whether a stream can be squeezed, if there is room
 unfoldable pub squeezable : List ℕ → ℕ → Verdict
-squeezable s start = result_and (check_of s start) (nexts_of (lands s start) (read_of s start).recs)
+squeezable s start = result_and (check_of s start) (nexts_of (landings s start) (read_of s start).recs)
 
 -- "then 18 if the buffer is too short"
 abbrev pub fitting : ℕ → ℕ → Result ℕ Refusal

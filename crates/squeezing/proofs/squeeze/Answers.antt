@@ -1,7 +1,7 @@
 -- `squeezing::squeeze` meets its contract.
 use Rattle.std.proofs.Common.{◌∙◌, length, rules, sym, ap}
 use Rattle.squeezing.specs.Squeeze.{squeezed, buffer_by}
-use Rattle.squeezing.proofs.Planned.{squeeze_refused, within, nests, room, with_room, with_less, put_squeezed, call_squeezes}
+use Rattle.squeezing.proofs.Planned.{squeeze_refused, within, nests, written_fits, with_room, with_less, put_squeezed, call_squeezes}
 use Rattle.squeezing.proofs.squeeze.Goals as goal
 
 pub returns-in_err-first-clause-value : goal.returns-in_err-first-clause-value
@@ -23,7 +23,7 @@ pub write-requires-clause-nests : goal.write-requires-clause-nests
 write-requires-clause-nests c = nests _ _ c.in_ok-first.ensures
 
 pub write-requires-clause-room : goal.write-requires-clause-room
-write-requires-clause-room c = room _ _ c.in_ok-first.ensures _ c.if-buffer-length.false
+write-requires-clause-room c = written_fits _ _ c.in_ok-first.ensures _ c.if-buffer-length.false
 
 pub returns-clause-value : goal.returns-clause-value
 returns-clause-value c = sym (with_room _ _ c.in_ok-first.ensures _ c.if-buffer-length.false)
