@@ -1,28 +1,33 @@
 // Blocks, and code that stands apart from its procedure.
 ghost use Rattle.std.specs.Prelude.{◌≡◌};
+ghost use Rattle.records.specs.Decoded.{decoded_as};
+ghost use Rattle.records.specs.declared.SymbolData.TheVariants as SymbolData;
 ghost use Rattle.code.specs.Block.{block, separated_code};
 
+use common::Refusal;
 use common::buffer::ParseBuffer;
 use names::parse_symbol_name;
 use records::field::parse_place;
 use records::flags::SeparatedCodeFlags;
-use records::{BlockSymbol, Decoded, SectionOffset, SeparatedCodeSymbol, SymbolData};
+use records::{BlockSymbol, SectionOffset, SeparatedCodeSymbol};
 
-pub fn parse_block(buf: &mut ParseBuffer, kind: u16) -> Decoded
-    ensures { result ≡ block kind buf.old.bytes.now buf.old.pos }
+#[inline(always)]
+pub fn parse_block(mut buf: ParseBuffer, kind: u16) -> Result<(BlockSymbol, usize), Refusal>
+    ensures { decoded_as SymbolData.Block result ≡ block kind buf.entry.bytes.now buf.entry.pos }
 {
-    let data = BlockSymbol {
+    let block = BlockSymbol {
         parent: buf.parse()?,
         end: buf.parse()?,
         len: buf.parse()?,
-        offset: parse_place(buf)?,
-        name: parse_symbol_name(buf, kind)?,
+        offset: parse_place(&mut buf)?,
+        name: parse_symbol_name(&mut buf, kind)?,
     };
-    Ok((SymbolData::Block(data), buf.pos))
+    Ok((block, buf.pos))
 }
 
-pub fn parse_separated_code(buf: &mut ParseBuffer) -> Decoded
-    ensures { result ≡ separated_code buf.old.bytes.now buf.old.pos }
+#[inline(always)]
+pub fn parse_separated_code(mut buf: ParseBuffer) -> Result<(SeparatedCodeSymbol, usize), Refusal>
+    ensures { decoded_as SymbolData.SeparatedCode result ≡ separated_code buf.entry.bytes.now buf.entry.pos }
 {
     let parent = buf.parse()?;
     let end = buf.parse()?;
@@ -33,7 +38,7 @@ pub fn parse_separated_code(buf: &mut ParseBuffer) -> Decoded
     let parent_offset = buf.parse()?;
     let section = buf.parse()?;
     let parent_section = buf.parse()?;
-    let data = SeparatedCodeSymbol {
+    let separated_code = SeparatedCodeSymbol {
         parent,
         end,
         len,
@@ -44,5 +49,5 @@ pub fn parse_separated_code(buf: &mut ParseBuffer) -> Decoded
             section: parent_section,
         },
     };
-    Ok((SymbolData::SeparatedCode(data), buf.pos))
+    Ok((separated_code, buf.pos))
 }

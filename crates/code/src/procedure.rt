@@ -1,41 +1,46 @@
 // Procedures, and the labels in them.
 ghost use Rattle.std.specs.Prelude.{◌≡◌};
+ghost use Rattle.records.specs.Decoded.{decoded_as};
+ghost use Rattle.records.specs.declared.SymbolData.TheVariants as SymbolData;
 ghost use Rattle.code.specs.Procedure.{procedure, label};
 
+use common::Refusal;
 use common::buffer::ParseBuffer;
 use constants::{S_GPROC32, S_GPROC32_ID, S_GPROC32_ST, S_LPROC32_DPC, S_LPROC32_DPC_ID};
 use names::parse_symbol_name;
 use records::field::{parse_optional_index, parse_place};
 use records::flags::ProcedureFlags;
-use records::{Decoded, LabelSymbol, ProcedureSymbol, SymbolData};
+use records::{LabelSymbol, ProcedureSymbol};
 
-pub fn parse_procedure(buf: &mut ParseBuffer, kind: u16) -> Decoded
-    ensures { result ≡ procedure kind buf.old.bytes.now buf.old.pos }
+#[inline(always)]
+pub fn parse_procedure(mut buf: ParseBuffer, kind: u16) -> Result<(ProcedureSymbol, usize), Refusal>
+    ensures { decoded_as SymbolData.Procedure result ≡ procedure kind buf.entry.bytes.now buf.entry.pos }
 {
-    let data = ProcedureSymbol {
+    let procedure = ProcedureSymbol {
         global: matches!(kind, S_GPROC32 | S_GPROC32_ST | S_GPROC32_ID),
         dpc: matches!(kind, S_LPROC32_DPC | S_LPROC32_DPC_ID),
-        parent: parse_optional_index(buf)?,
+        parent: parse_optional_index(&mut buf)?,
         end: buf.parse()?,
-        next: parse_optional_index(buf)?,
+        next: parse_optional_index(&mut buf)?,
         len: buf.parse()?,
         dbg_start_offset: buf.parse()?,
         dbg_end_offset: buf.parse()?,
         type_index: buf.parse()?,
-        offset: parse_place(buf)?,
+        offset: parse_place(&mut buf)?,
         flags: ProcedureFlags::from(buf.parse::<u8>()?),
-        name: parse_symbol_name(buf, kind)?,
+        name: parse_symbol_name(&mut buf, kind)?,
     };
-    Ok((SymbolData::Procedure(data), buf.pos))
+    Ok((procedure, buf.pos))
 }
 
-pub fn parse_label(buf: &mut ParseBuffer, kind: u16) -> Decoded
-    ensures { result ≡ label kind buf.old.bytes.now buf.old.pos }
+#[inline(always)]
+pub fn parse_label(mut buf: ParseBuffer, kind: u16) -> Result<(LabelSymbol, usize), Refusal>
+    ensures { decoded_as SymbolData.Label result ≡ label kind buf.entry.bytes.now buf.entry.pos }
 {
-    let data = LabelSymbol {
-        offset: parse_place(buf)?,
+    let label = LabelSymbol {
+        offset: parse_place(&mut buf)?,
         flags: ProcedureFlags::from(buf.parse::<u8>()?),
-        name: parse_symbol_name(buf, kind)?,
+        name: parse_symbol_name(&mut buf, kind)?,
     };
-    Ok((SymbolData::Label(data), buf.pos))
+    Ok((label, buf.pos))
 }

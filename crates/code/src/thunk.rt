@@ -1,5 +1,7 @@
 // Thunks: code that only leads to other code.
-ghost use Rattle.std.specs.Prelude.{◌≡◌};
+ghost use Rattle.std.specs.Prelude.{◌≡◌, OnErr};
+ghost use Rattle.records.specs.Decoded.{decoded_as};
+ghost use Rattle.records.specs.declared.SymbolData.TheVariants as SymbolData;
 ghost use Rattle.common.specs.Buffer.{Reads};
 ghost use Rattle.code.specs.Thunk.{adjustor, thunk_kind, thunk};
 
@@ -7,21 +9,26 @@ use common::Refusal;
 use common::buffer::ParseBuffer;
 use names::{parse_cstring, parse_symbol_name};
 use records::field::{parse_optional_index, parse_place};
-use records::{Decoded, SymbolData, ThunkAdjustor, ThunkKind, ThunkSymbol};
+use records::{ThunkAdjustor, ThunkKind, ThunkSymbol};
 
-/// Reads an adjustor. Its target ends in a zero whatever the kind of the record.
+/// Reads an adjustor, or moves nothing. Its target ends in a zero whatever the kind of the record.
 fn parse_adjustor(buf: &mut ParseBuffer) -> Result<ThunkKind, Refusal>
-    ensures { Reads adjustor buf.old result buf.new }
+    ensures reads { Reads adjustor buf.old result buf.new }
+    ensures stays { OnErr result (buf.new.pos ≡ buf.old.pos) }
 {
-    Ok(ThunkKind::Adjustor(ThunkAdjustor {
-        delta: buf.parse()?,
-        target: parse_cstring(buf)?,
-    }))
+    let mut ahead = *buf;
+    let adjustor = ThunkAdjustor {
+        delta: ahead.parse()?,
+        target: parse_cstring(&mut ahead)?,
+    };
+    *buf = ahead;
+    Ok(ThunkKind::Adjustor(adjustor))
 }
 
-/// Reads what stands behind the name of a thunk, by the variant's code.
+/// Reads what stands behind the name of a thunk, by the variant's code, or moves nothing.
 pub fn parse_thunk_kind(buf: &mut ParseBuffer, code: u8) -> Result<ThunkKind, Refusal>
-    ensures { Reads (thunk_kind code) buf.old result buf.new }
+    ensures reads { Reads (thunk_kind code) buf.old result buf.new }
+    ensures stays { OnErr result (buf.new.pos ≡ buf.old.pos) }
 {
     match code {
         0 => Ok(ThunkKind::NoType),
@@ -33,25 +40,26 @@ pub fn parse_thunk_kind(buf: &mut ParseBuffer, code: u8) -> Result<ThunkKind, Re
     }
 }
 
-pub fn parse_thunk(buf: &mut ParseBuffer, kind: u16) -> Decoded
-    ensures { result ≡ thunk kind buf.old.bytes.now buf.old.pos }
+#[inline(always)]
+pub fn parse_thunk(mut buf: ParseBuffer, kind: u16) -> Result<(ThunkSymbol, usize), Refusal>
+    ensures { decoded_as SymbolData.Thunk result ≡ thunk kind buf.entry.bytes.now buf.entry.pos }
 {
-    let parent = parse_optional_index(buf)?;
+    let parent = parse_optional_index(&mut buf)?;
     let end = buf.parse()?;
-    let next = parse_optional_index(buf)?;
-    let offset = parse_place(buf)?;
+    let next = parse_optional_index(&mut buf)?;
+    let offset = parse_place(&mut buf)?;
     let len = buf.parse()?;
     // The code of the variant, whose data come behind the name.
     let code = buf.parse()?;
-    let name = parse_symbol_name(buf, kind)?;
-    let data = ThunkSymbol {
+    let name = parse_symbol_name(&mut buf, kind)?;
+    let thunk = ThunkSymbol {
         parent,
         end,
         next,
         offset,
         len,
-        kind: parse_thunk_kind(buf, code)?,
+        kind: parse_thunk_kind(&mut buf, code)?,
         name,
     };
-    Ok((SymbolData::Thunk(data), buf.pos))
+    Ok((thunk, buf.pos))
 }

@@ -1,7 +1,8 @@
 // The records about modules and what links them: object files, compilers, references, publics, exports and trampolines.
 //
-// A decoder is lent a buffer whose kind is read, and reads the fields in the order of the layout. It answers the record with the position
-// behind it, as pdb's do: made by the caller, that pair would be copied once more. The kind stands beside the buffer, as in pdb.
+// A decoder is given a buffer whose kind is read, and reads the fields in the order of the layout. It answers its own record, as pdb's do,
+// with the position behind it, and is inlined: where `decode_to` (crate symbol) calls it, the record is taken apart. The kind stands beside
+// the buffer, as in pdb.
 #![tactic(auto)]
 
 pub mod compile;

@@ -1,40 +1,43 @@
 // What the linker writes: publics, exports and trampolines.
 ghost use Rattle.std.specs.Prelude.{◌≡◌};
+ghost use Rattle.records.specs.Decoded.{decoded_as};
+ghost use Rattle.records.specs.declared.SymbolData.TheVariants as SymbolData;
 ghost use Rattle.compiland.specs.Linkage.{public_symbol, export_symbol, trampoline};
 
+use common::Refusal;
 use common::buffer::ParseBuffer;
 use names::parse_symbol_name;
 use records::field::parse_place;
 use records::flags::{ExportSymbolFlags, PublicFlags};
-use records::{
-    Decoded, ExportSymbol, PublicSymbol, SectionOffset, SymbolData, TrampolineSymbol,
-    TrampolineType,
-};
+use records::{ExportSymbol, PublicSymbol, SectionOffset, TrampolineSymbol, TrampolineType};
 
-pub fn parse_public(buf: &mut ParseBuffer, kind: u16) -> Decoded
-    ensures { result ≡ public_symbol kind buf.old.bytes.now buf.old.pos }
+#[inline(always)]
+pub fn parse_public(mut buf: ParseBuffer, kind: u16) -> Result<(PublicSymbol, usize), Refusal>
+    ensures { decoded_as SymbolData.Public result ≡ public_symbol kind buf.entry.bytes.now buf.entry.pos }
 {
-    let data = PublicSymbol {
+    let public = PublicSymbol {
         flags: PublicFlags::from(buf.parse::<u32>()?),
-        offset: parse_place(buf)?,
-        name: parse_symbol_name(buf, kind)?,
+        offset: parse_place(&mut buf)?,
+        name: parse_symbol_name(&mut buf, kind)?,
     };
-    Ok((SymbolData::Public(data), buf.pos))
+    Ok((public, buf.pos))
 }
 
-pub fn parse_export(buf: &mut ParseBuffer, kind: u16) -> Decoded
-    ensures { result ≡ export_symbol kind buf.old.bytes.now buf.old.pos }
+#[inline(always)]
+pub fn parse_export(mut buf: ParseBuffer, kind: u16) -> Result<(ExportSymbol, usize), Refusal>
+    ensures { decoded_as SymbolData.Export result ≡ export_symbol kind buf.entry.bytes.now buf.entry.pos }
 {
-    let data = ExportSymbol {
+    let export = ExportSymbol {
         ordinal: buf.parse()?,
         flags: ExportSymbolFlags::from(buf.parse::<u16>()?),
-        name: parse_symbol_name(buf, kind)?,
+        name: parse_symbol_name(&mut buf, kind)?,
     };
-    Ok((SymbolData::Export(data), buf.pos))
+    Ok((export, buf.pos))
 }
 
-pub fn parse_trampoline(buf: &mut ParseBuffer) -> Decoded
-    ensures { result ≡ trampoline buf.old.bytes.now buf.old.pos }
+#[inline(always)]
+pub fn parse_trampoline(mut buf: ParseBuffer) -> Result<(TrampolineSymbol, usize), Refusal>
+    ensures { decoded_as SymbolData.Trampoline result ≡ trampoline buf.entry.bytes.now buf.entry.pos }
 {
     let tramp_type = TrampolineType::from(buf.parse::<u16>()?);
     let size = buf.parse()?;
@@ -43,7 +46,7 @@ pub fn parse_trampoline(buf: &mut ParseBuffer) -> Decoded
     let target_offset = buf.parse()?;
     let thunk_section = buf.parse()?;
     let target_section = buf.parse()?;
-    let data = TrampolineSymbol {
+    let trampoline = TrampolineSymbol {
         tramp_type,
         size,
         thunk: SectionOffset {
@@ -55,5 +58,5 @@ pub fn parse_trampoline(buf: &mut ParseBuffer) -> Decoded
             section: target_section,
         },
     };
-    Ok((SymbolData::Trampoline(data), buf.pos))
+    Ok((trampoline, buf.pos))
 }

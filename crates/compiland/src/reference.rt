@@ -1,5 +1,7 @@
 // References to what another module holds: procedures, data and annotations.
-ghost use Rattle.std.specs.Prelude.{◌≡◌};
+ghost use Rattle.std.specs.Prelude.{◌≡◌, OnErr};
+ghost use Rattle.records.specs.Decoded.{decoded_as};
+ghost use Rattle.records.specs.declared.SymbolData.TheVariants as SymbolData;
 ghost use Rattle.common.specs.Buffer.{Reads};
 ghost use Rattle.compiland.specs.Reference.{optional_name, procedure_reference, data_reference, annotation_reference};
 
@@ -8,13 +10,12 @@ use common::buffer::ParseBuffer;
 use constants::{S_PROCREF, S_PROCREF_ST};
 use names::{Part, S_ST_MAX, parse_cstring, parse_symbol_name};
 use records::field::parse_module;
-use records::{
-    AnnotationReferenceSymbol, DataReferenceSymbol, Decoded, ProcedureReferenceSymbol, SymbolData,
-};
+use records::{AnnotationReferenceSymbol, DataReferenceSymbol, ProcedureReferenceSymbol};
 
-/// Reads the name of a reference to a procedure or to data. Kinds below S_ST_MAX do not specify one.
+/// Reads the name of a reference to a procedure or to data, or moves nothing. Kinds below S_ST_MAX do not specify one.
 pub fn parse_optional_name(buf: &mut ParseBuffer, kind: u16) -> Result<Option<Part>, Refusal>
-    ensures { Reads (optional_name kind) buf.old result buf.new }
+    ensures reads { Reads (optional_name kind) buf.old result buf.new }
+    ensures stays { OnErr result (buf.new.pos ≡ buf.old.pos) }
 {
     if kind < S_ST_MAX {
         return Ok(None);
@@ -22,39 +23,51 @@ pub fn parse_optional_name(buf: &mut ParseBuffer, kind: u16) -> Result<Option<Pa
     Ok(Some(parse_cstring(buf)?))
 }
 
-pub fn parse_procedure_reference(buf: &mut ParseBuffer, kind: u16) -> Decoded
-    ensures { result ≡ procedure_reference kind buf.old.bytes.now buf.old.pos }
+#[inline(always)]
+pub fn parse_procedure_reference(
+    mut buf: ParseBuffer,
+    kind: u16,
+) -> Result<(ProcedureReferenceSymbol, usize), Refusal>
+    ensures { decoded_as SymbolData.ProcedureReference result ≡ procedure_reference kind buf.entry.bytes.now buf.entry.pos }
 {
-    let data = ProcedureReferenceSymbol {
+    let procedure_reference = ProcedureReferenceSymbol {
         global: matches!(kind, S_PROCREF | S_PROCREF_ST),
         sum_name: buf.parse()?,
         symbol_index: buf.parse()?,
-        module: parse_module(buf)?,
-        name: parse_optional_name(buf, kind)?,
+        module: parse_module(&mut buf)?,
+        name: parse_optional_name(&mut buf, kind)?,
     };
-    Ok((SymbolData::ProcedureReference(data), buf.pos))
+    Ok((procedure_reference, buf.pos))
 }
 
-pub fn parse_data_reference(buf: &mut ParseBuffer, kind: u16) -> Decoded
-    ensures { result ≡ data_reference kind buf.old.bytes.now buf.old.pos }
+#[inline(always)]
+pub fn parse_data_reference(
+    mut buf: ParseBuffer,
+    kind: u16,
+) -> Result<(DataReferenceSymbol, usize), Refusal>
+    ensures { decoded_as SymbolData.DataReference result ≡ data_reference kind buf.entry.bytes.now buf.entry.pos }
 {
-    let data = DataReferenceSymbol {
+    let data_reference = DataReferenceSymbol {
         sum_name: buf.parse()?,
         symbol_index: buf.parse()?,
-        module: parse_module(buf)?,
-        name: parse_optional_name(buf, kind)?,
+        module: parse_module(&mut buf)?,
+        name: parse_optional_name(&mut buf, kind)?,
     };
-    Ok((SymbolData::DataReference(data), buf.pos))
+    Ok((data_reference, buf.pos))
 }
 
-pub fn parse_annotation_reference(buf: &mut ParseBuffer, kind: u16) -> Decoded
-    ensures { result ≡ annotation_reference kind buf.old.bytes.now buf.old.pos }
+#[inline(always)]
+pub fn parse_annotation_reference(
+    mut buf: ParseBuffer,
+    kind: u16,
+) -> Result<(AnnotationReferenceSymbol, usize), Refusal>
+    ensures { decoded_as SymbolData.AnnotationReference result ≡ annotation_reference kind buf.entry.bytes.now buf.entry.pos }
 {
-    let data = AnnotationReferenceSymbol {
+    let annotation_reference = AnnotationReferenceSymbol {
         sum_name: buf.parse()?,
         symbol_index: buf.parse()?,
-        module: parse_module(buf)?,
-        name: parse_symbol_name(buf, kind)?,
+        module: parse_module(&mut buf)?,
+        name: parse_symbol_name(&mut buf, kind)?,
     };
-    Ok((SymbolData::AnnotationReference(data), buf.pos))
+    Ok((annotation_reference, buf.pos))
 }

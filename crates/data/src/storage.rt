@@ -1,7 +1,10 @@
 // The records of variables that lie in memory: data and thread storage.
 ghost use Rattle.std.specs.Prelude.{◌≡◌};
+ghost use Rattle.records.specs.Decoded.{decoded_as};
+ghost use Rattle.records.specs.declared.SymbolData.TheVariants as SymbolData;
 ghost use Rattle.data.specs.Storage.{data_item, thread_storage};
 
+use common::Refusal;
 use common::buffer::ParseBuffer;
 use constants::{
     S_GDATA32, S_GDATA32_ST, S_GMANDATA, S_GMANDATA_ST, S_GTHREAD32, S_GTHREAD32_ST, S_LMANDATA,
@@ -9,10 +12,11 @@ use constants::{
 };
 use names::parse_symbol_name;
 use records::field::parse_place;
-use records::{DataSymbol, Decoded, SymbolData, ThreadStorageSymbol};
+use records::{DataSymbol, ThreadStorageSymbol};
 
-pub fn parse_data(buf: &mut ParseBuffer, kind: u16) -> Decoded
-    ensures { result ≡ data_item kind buf.old.bytes.now buf.old.pos }
+#[inline(always)]
+pub fn parse_data(mut buf: ParseBuffer, kind: u16) -> Result<(DataSymbol, usize), Refusal>
+    ensures { decoded_as SymbolData.Data result ≡ data_item kind buf.entry.bytes.now buf.entry.pos }
 {
     let data = DataSymbol {
         global: matches!(kind, S_GDATA32 | S_GDATA32_ST | S_GMANDATA | S_GMANDATA_ST),
@@ -21,20 +25,24 @@ pub fn parse_data(buf: &mut ParseBuffer, kind: u16) -> Decoded
             S_LMANDATA | S_LMANDATA_ST | S_GMANDATA | S_GMANDATA_ST
         ),
         type_index: buf.parse()?,
-        offset: parse_place(buf)?,
-        name: parse_symbol_name(buf, kind)?,
+        offset: parse_place(&mut buf)?,
+        name: parse_symbol_name(&mut buf, kind)?,
     };
-    Ok((SymbolData::Data(data), buf.pos))
+    Ok((data, buf.pos))
 }
 
-pub fn parse_thread_storage(buf: &mut ParseBuffer, kind: u16) -> Decoded
-    ensures { result ≡ thread_storage kind buf.old.bytes.now buf.old.pos }
+#[inline(always)]
+pub fn parse_thread_storage(
+    mut buf: ParseBuffer,
+    kind: u16,
+) -> Result<(ThreadStorageSymbol, usize), Refusal>
+    ensures { decoded_as SymbolData.ThreadStorage result ≡ thread_storage kind buf.entry.bytes.now buf.entry.pos }
 {
-    let data = ThreadStorageSymbol {
+    let thread_storage = ThreadStorageSymbol {
         global: matches!(kind, S_GTHREAD32 | S_GTHREAD32_ST),
         type_index: buf.parse()?,
-        offset: parse_place(buf)?,
-        name: parse_symbol_name(buf, kind)?,
+        offset: parse_place(&mut buf)?,
+        name: parse_symbol_name(&mut buf, kind)?,
     };
-    Ok((SymbolData::ThreadStorage(data), buf.pos))
+    Ok((thread_storage, buf.pos))
 }

@@ -1,11 +1,13 @@
 -- The links of a record that opens a scope: they stand at their places wherever decode answers.
 -- Assumes nothing.
-use Rattle.std.proofs.Common.{ℕ, ◌≡◌, refl, sym, subst, ◌+◌, ◌≤◌, arith, Bool, true, false, cond, List, length, Option, None, Some, unwrap_or, Ok, Err}
+use Rattle.std.proofs.Common.{ℕ, ◌≡◌, refl, ap, sym, subst, ◌+◌, ◌≤◌, arith, Bool, true, false, cond, List, length, Option, None, Some, unwrap_or, Ok, Err}
 use lib.Dec.{ltb, leb, eqb}
 use borrow.Author.Tests.{leb-true, eqb-true, le-ltb}
 use Rattle.common.specs.Bytes.{le}
 use Rattle.common.specs.Reader.{Read, Reader, done, next, number, runs_out}
+use Rattle.common.specs.declared.Refusal.{Refusal}
 use Rattle.common.specs.declared.Refusal.TheVariants.{TooLong}
+use Rattle.names.specs.declared.Part.{Part}
 use Rattle.constants.specs.Kind.{kinds, class, role, opens, entry_of, class_of, class_number, role_of as kindRole, nesting_role}
 use Rattle.constants.specs.declared.Class.{Class}
 use Rattle.constants.specs.declared.Class.TheVariants.{Unknown, Procedure, InlineSite, Block, Thunk, SeparatedCode}
@@ -13,13 +15,15 @@ use Rattle.constants.specs.declared.Role.TheVariants.{Opens}
 use Rattle.constants.proofs.Entries.{agree}
 use Rattle.constants.specs.Raw.{raw_kind, nesting_role_of}
 use Rattle.records.specs.Field.{index_of}
+use Rattle.records.specs.Name.{name_in}
 use Rattle.records.specs.declared.SymbolData.{SymbolData}
 use Rattle.code.specs.Procedure.{procedure}
 use Rattle.code.specs.Block.{block, separated_code}
 use Rattle.code.specs.Inline.{inline_site}
 use Rattle.code.specs.Thunk.{thunk}
 use Rattle.symbol.specs.Decode.{layout, by_kind, decode}
-use Rattle.links.specs.Links.{class_has_next, has_next, linked, links_in, LinkFields, of_procedure, of_inline_site, of_block, of_thunk, of_separated_code, LinksAreFields}
+use Rattle.symbol.specs.Name.{answered, name_of}
+use Rattle.links.specs.Links.{class_has_next, has_next, linked, links_in, links_by, links_of, LinkFields, of_procedure, of_inline_site, of_block, of_thunk, of_separated_code, LinksAreFields}
 
 -- what was read from a record has as link fields what stands at 2 and 6 in it, and at 10 where it has a next
 abbrev Linked : Bool → List ℕ → Read SymbolData → Type 0
@@ -160,3 +164,32 @@ module _ (s : List ℕ) {r : SymbolData × ℕ} (h : nesting_role_of s ≡ Opens
 
 pub links_are_fields : (s : List ℕ) → LinksAreFields s
 links_are_fields s h d consumed e = (there s h e).1
+
+-- Name answers where decode does: then the links stand within the record, and are those of decode's answer.
+module _ (s : List ℕ) {p : Option Part} (h : nesting_role_of s ≡ Opens) (e : name_of s ≡ Ok p) where
+  decoded : (r : SymbolData × ℕ) × (decode s ≡ Ok r)
+  unfolding name_of
+  decoded = by (decode s) refl e
+    where
+      by : (r : Read SymbolData) → decode s ≡ r → answered name_in r ≡ Ok p → (r : SymbolData × ℕ) × (decode s ≡ Ok r)
+      by (Ok r) d q = (r, d)
+      by (Err x) d q = cc
+
+  pub named_links_there : 10 ≤ length s
+  named_links_there = links_there s h decoded.1
+
+  pub named_next_there : has_next (raw_kind s) ≡ true → 14 ≤ length s
+  named_next_there = next_there s h decoded.1
+
+  pub named_links : links_of s ≡ Some (links_in s)
+  unfolding links_of
+  named_links = ap (links_by s) decoded.1
+
+-- and refuses where decode does
+pub unnamed_links : (s : List ℕ) {x : Refusal} → name_of s ≡ Err x → links_of s ≡ None
+unfolding name_of links_of
+unnamed_links s {x} e = by (decode s) refl e
+  where
+    by : (r : Read SymbolData) → decode s ≡ r → answered name_in r ≡ Err x → links_by s (decode s) ≡ None
+    by (Ok r) d q = cc
+    by (Err y) d q = ap (links_by s) d

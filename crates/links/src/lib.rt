@@ -53,13 +53,14 @@ pub fn next_in(kind: u16, rec: &[u8]) -> u32
     }
 }
 
-/// The links of an opener; none where decode refuses it. (Required here alone: behind another kind these bytes are other fields.)
-#[tactic(auto, using(crate::proofs::Openers::links_there, crate::proofs::Openers::next_there), unfolding(crate::specs::Links::links_of))]
+/// The links of an opener; none where decode refuses it, as name does. (Required here alone: behind another kind these bytes are other
+/// fields.)
+#[tactic(auto, using(crate::proofs::Openers::named_links_there, crate::proofs::Openers::named_next_there, crate::proofs::Openers::named_links, crate::proofs::Openers::unnamed_links))]
 pub fn links_of(rec: &[u8]) -> Option<Links>
     requires { nesting_role_of rec.now ≡ Opens }
     ensures { result ≡ links_of rec.now }
 {
-    symbol::decode(rec).ok()?;
+    symbol::name::name(rec).ok()?;
     let next = next_in(constants::kind::raw_kind(rec), rec);
     Some(Links {
         parent: u32::at(rec, PARENT_AT),

@@ -25,6 +25,8 @@ ghost use Rattle.reply.specs.Reply.{Replied};
 ghost use Rattle.reply.specs.Replies.{step_reply, kind_reply, decode_reply, name_reply, entry_reply, annotation_reply, check_reply, finding_reply, squeeze_reply, preview_reply};
 ghost use Rattle.mitrelilac.specs.Exported.{call, SumsUp, CallMovesOn, CallSqueezes, CallForetells};
 
+use records::Decoded;
+
 /// One step from a position. End: 0, position. A record: 1, index, where its bytes start, how many they are, next position.
 pub fn mitrelilac_step(stream: &[u8], position: usize, out: &mut [u64; 5]) -> u32
     ensures { Replied (step_reply (step_of stream.now position)) result out.old out.new }
@@ -43,10 +45,19 @@ pub fn mitrelilac_kind(rec: &[u8], out: &mut [u64; 3]) -> u32
 }
 
 /// A record decoded: the number of its class, the bytes consumed, and its fields.
+#[tactic(auto, unfolding(symbol::specs::Decode::decode))]
 pub fn mitrelilac_decode(rec: &[u8], out: &mut [u64; 24]) -> u32
     ensures { Replied (decode_reply (decode rec.now)) result out.old out.new }
 {
-    match &symbol::decode(rec) {
+    symbol::decode_to!(rec, reply_decoded, out)
+}
+
+/// The reply to what decode answers: the words of the record, or the refusal.
+#[inline(always)]
+fn reply_decoded(decoded: Decoded, out: &mut [u64; 24]) -> u32
+    ensures { Replied (decode_reply decoded) result out.old out.new }
+{
+    match &decoded {
         Ok((d, consumed)) => {
             record_words::write_record(d, *consumed, out);
             0

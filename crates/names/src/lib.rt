@@ -3,7 +3,7 @@
 // A name is kept as where it starts and how long it is; `as_bytes` gives the bytes themselves, out of the lent slice.
 #![tactic(auto, unfolding(crate::specs::Name::bytes, crate::specs::Name::cstring, crate::specs::Name::symbol_name, crate::specs::Name::bytes_of))]
 
-ghost use Rattle.std.specs.Prelude.{◌≡◌, OnErr};
+ghost use Rattle.std.specs.Prelude.{◌≡◌, OnErr, drop};
 ghost use Rattle.common.specs.Buffer.{Reads};
 ghost use Rattle.names.specs.Name.{run, bytes, cstring, pascal, rest, symbol_name};
 ghost use Rattle.names.specs.Lent.{IsPart};
@@ -31,20 +31,45 @@ fn before_zero(s: &[u8]) -> usize
     memchr::memchr(0, s).unwrap_or(s.len())
 }
 
+/// How many bytes are looked at one by one in a list of names.
+const NEAR: usize = 8;
+
+/// As `before_zero`, of a short name that others follow: `memchr` is made for long ones, and looks at 64 bytes at once.
+fn before_near_zero(s: &[u8]) -> usize
+    ensures { result ≡ run s.now }
+{
+    let near = s.len().min(NEAR);
+    for n in 0..near {
+        if s[n] == 0 {
+            return n;
+        }
+    }
+    near + before_zero(&s[near..])
+}
+
+/// Takes a name of so many bytes, and the zero behind it, or moves nothing.
+#[inline(always)]
+fn take_cstring(buf: &mut ParseBuffer, len: usize) -> Result<Part, Refusal>
+    requires { len ≡ run (drop buf.old.pos buf.old.bytes.now) }
+    ensures reads { Reads cstring buf.old result buf.new }
+    ensures stays { OnErr result (buf.new.pos ≡ buf.old.pos) }
+{
+    let start = buf.pos;
+    if buf.rest().len() <= len {
+        return Err(Refusal::UnexpectedEof(0));
+    }
+    buf.pos += len + 1;
+    Ok(Part { start, len })
+}
+
 /// Reads bytes up to a zero, and the zero, or moves nothing.
 #[inline(always)]
 pub fn parse_cstring(buf: &mut ParseBuffer) -> Result<Part, Refusal>
     ensures reads { Reads cstring buf.old result buf.new }
     ensures stays { OnErr result (buf.new.pos ≡ buf.old.pos) }
 {
-    let start = buf.pos;
-    let rest = buf.rest();
-    let len = before_zero(rest);
-    if rest.len() <= len {
-        return Err(Refusal::UnexpectedEof(0));
-    }
-    buf.pos += len + 1;
-    Ok(Part { start, len })
+    let len = before_zero(buf.rest());
+    take_cstring(buf, len)
 }
 
 /// Reads n bytes, or moves nothing.
@@ -60,13 +85,17 @@ fn take(buf: &mut ParseBuffer, n: usize) -> Result<Part, Refusal>
     Ok(Part { start, len: n })
 }
 
-/// Reads a length of one byte, and as many bytes.
+/// Reads a length of one byte, and as many bytes, or moves nothing.
 #[inline(always)]
 pub fn parse_u8_pascal_string(buf: &mut ParseBuffer) -> Result<Part, Refusal>
-    ensures { Reads pascal buf.old result buf.new }
+    ensures reads { Reads pascal buf.old result buf.new }
+    ensures stays { OnErr result (buf.new.pos ≡ buf.old.pos) }
 {
-    let len: u8 = buf.parse()?;
-    take(buf, len as usize)
+    let mut ahead = *buf;
+    let len: u8 = ahead.parse()?;
+    let name = take(&mut ahead, len as usize)?;
+    *buf = ahead;
+    Ok(name)
 }
 
 /// Reads all that is left, perhaps nothing.
@@ -79,16 +108,31 @@ pub fn take_rest(buf: &mut ParseBuffer) -> Part
     Part { start, len }
 }
 
-/// Reads the name of a record of this kind. (Here and in decoders the kind stands beside the buffer, as in pdb: a buffer is of any bytes.)
+/// Reads the name of a record of this kind, or moves nothing. (Here and in decoders the kind stands beside the buffer, as in pdb: a buffer is
+/// of any bytes.)
 #[inline(always)]
 pub fn parse_symbol_name(buf: &mut ParseBuffer, kind: u16) -> Result<Part, Refusal>
-    ensures { Reads (symbol_name kind) buf.old result buf.new }
+    ensures reads { Reads (symbol_name kind) buf.old result buf.new }
+    ensures stays { OnErr result (buf.new.pos ≡ buf.old.pos) }
 {
     if kind < S_ST_MAX {
         parse_u8_pascal_string(buf)
     } else {
         parse_cstring(buf)
     }
+}
+
+/// Reads the name of an entry in a list of such a kind, or moves nothing.
+#[inline(always)]
+pub fn parse_listed_name(buf: &mut ParseBuffer, kind: u16) -> Result<Part, Refusal>
+    ensures reads { Reads (symbol_name kind) buf.old result buf.new }
+    ensures stays { OnErr result (buf.new.pos ≡ buf.old.pos) }
+{
+    if S_ST_MAX <= kind {
+        let len = before_near_zero(buf.rest());
+        return take_cstring(buf, len);
+    }
+    parse_u8_pascal_string(buf)
 }
 
 /// The bytes of a part, and none where it does not lie within the lent bytes.

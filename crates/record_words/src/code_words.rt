@@ -11,6 +11,7 @@ use records::{
     BlockSymbol, InlineSiteSymbol, LabelSymbol, ProcedureSymbol, SeparatedCodeSymbol, ThunkSymbol,
 };
 
+#[inline(always)]
 pub fn procedure(x: &ProcedureSymbol, consumed: u64) -> [u64; 16]
     ensures { result ≡ record_words (SymbolData.Procedure x.now) consumed }
 {
@@ -34,6 +35,7 @@ pub fn procedure(x: &ProcedureSymbol, consumed: u64) -> [u64; 16]
     ]
 }
 
+#[inline(always)]
 pub fn inline_site(x: &InlineSiteSymbol, consumed: u64) -> [u64; 9]
     ensures { result ≡ record_words (SymbolData.InlineSite x.now) consumed }
 {
@@ -50,6 +52,7 @@ pub fn inline_site(x: &InlineSiteSymbol, consumed: u64) -> [u64; 9]
     ]
 }
 
+#[inline(always)]
 pub fn label(x: &LabelSymbol, consumed: u64) -> [u64; 7]
     ensures { result ≡ record_words (SymbolData.Label x.now) consumed }
 {
@@ -64,6 +67,7 @@ pub fn label(x: &LabelSymbol, consumed: u64) -> [u64; 7]
     ]
 }
 
+#[inline(always)]
 pub fn block(x: &BlockSymbol, consumed: u64) -> [u64; 9]
     ensures { result ≡ record_words (SymbolData.Block x.now) consumed }
 {
@@ -80,6 +84,7 @@ pub fn block(x: &BlockSymbol, consumed: u64) -> [u64; 9]
     ]
 }
 
+#[inline(always)]
 pub fn thunk(x: &ThunkSymbol, consumed: u64) -> [u64; 14]
     ensures { result ≡ record_words (SymbolData.Thunk x.now) consumed }
 {
@@ -102,6 +107,7 @@ pub fn thunk(x: &ThunkSymbol, consumed: u64) -> [u64; 14]
     ]
 }
 
+#[inline(always)]
 pub fn separated_code(x: &SeparatedCodeSymbol, consumed: u64) -> [u64; 10]
     ensures { result ≡ record_words (SymbolData.SeparatedCode x.now) consumed }
 {

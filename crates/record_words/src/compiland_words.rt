@@ -13,6 +13,7 @@ use records::{
     UsingNamespaceSymbol,
 };
 
+#[inline(always)]
 pub fn obj_name(x: &ObjNameSymbol, consumed: u64) -> [u64; 5]
     ensures { result ≡ record_words (SymbolData.ObjName x.now) consumed }
 {
@@ -25,6 +26,7 @@ pub fn obj_name(x: &ObjNameSymbol, consumed: u64) -> [u64; 5]
     ]
 }
 
+#[inline(always)]
 pub fn public_symbol(x: &PublicSymbol, consumed: u64) -> [u64; 7]
     ensures { result ≡ record_words (SymbolData.Public x.now) consumed }
 {
@@ -39,6 +41,7 @@ pub fn public_symbol(x: &PublicSymbol, consumed: u64) -> [u64; 7]
     ]
 }
 
+#[inline(always)]
 pub fn compile_flags(x: &CompileFlagsSymbol, consumed: u64) -> [u64; 17]
     ensures { result ≡ record_words (SymbolData.CompileFlags x.now) consumed }
 {
@@ -66,6 +69,7 @@ pub fn compile_flags(x: &CompileFlagsSymbol, consumed: u64) -> [u64; 17]
     ]
 }
 
+#[inline(always)]
 pub fn using_namespace(x: &UsingNamespaceSymbol, consumed: u64) -> [u64; 4]
     ensures { result ≡ record_words (SymbolData.UsingNamespace x.now) consumed }
 {
@@ -77,6 +81,7 @@ pub fn using_namespace(x: &UsingNamespaceSymbol, consumed: u64) -> [u64; 4]
     ]
 }
 
+#[inline(always)]
 pub fn procedure_reference(x: &ProcedureReferenceSymbol, consumed: u64) -> [u64; 10]
     ensures { result ≡ record_words (SymbolData.ProcedureReference x.now) consumed }
 {
@@ -95,6 +100,7 @@ pub fn procedure_reference(x: &ProcedureReferenceSymbol, consumed: u64) -> [u64;
     ]
 }
 
+#[inline(always)]
 pub fn data_reference(x: &DataReferenceSymbol, consumed: u64) -> [u64; 9]
     ensures { result ≡ record_words (SymbolData.DataReference x.now) consumed }
 {
@@ -112,6 +118,7 @@ pub fn data_reference(x: &DataReferenceSymbol, consumed: u64) -> [u64; 9]
     ]
 }
 
+#[inline(always)]
 pub fn annotation_reference(x: &AnnotationReferenceSymbol, consumed: u64) -> [u64; 8]
     ensures { result ≡ record_words (SymbolData.AnnotationReference x.now) consumed }
 {
@@ -127,6 +134,7 @@ pub fn annotation_reference(x: &AnnotationReferenceSymbol, consumed: u64) -> [u6
     ]
 }
 
+#[inline(always)]
 pub fn trampoline(x: &TrampolineSymbol, consumed: u64) -> [u64; 8]
     ensures { result ≡ record_words (SymbolData.Trampoline x.now) consumed }
 {
@@ -142,6 +150,7 @@ pub fn trampoline(x: &TrampolineSymbol, consumed: u64) -> [u64; 8]
     ]
 }
 
+#[inline(always)]
 pub fn export_symbol(x: &ExportSymbol, consumed: u64) -> [u64; 6]
     ensures { result ≡ record_words (SymbolData.Export x.now) consumed }
 {
@@ -155,6 +164,7 @@ pub fn export_symbol(x: &ExportSymbol, consumed: u64) -> [u64; 6]
     ]
 }
 
+#[inline(always)]
 pub fn build_info(x: &BuildInfoSymbol, consumed: u64) -> [u64; 3]
     ensures { result ≡ record_words (SymbolData.BuildInfo x.now) consumed }
 {

@@ -12,6 +12,7 @@ use records::{
     RegisterVariableSymbol, ThreadStorageSymbol, UserDefinedTypeSymbol,
 };
 
+#[inline(always)]
 pub fn register_variable(x: &RegisterVariableSymbol, consumed: u64) -> [u64; 6]
     ensures { result ≡ record_words (SymbolData.RegisterVariable x.now) consumed }
 {
@@ -25,6 +26,7 @@ pub fn register_variable(x: &RegisterVariableSymbol, consumed: u64) -> [u64; 6]
     ]
 }
 
+#[inline(always)]
 pub fn constant(x: &ConstantSymbol, consumed: u64) -> [u64; 8]
     ensures { result ≡ record_words (SymbolData.Constant x.now) consumed }
 {
@@ -40,6 +42,7 @@ pub fn constant(x: &ConstantSymbol, consumed: u64) -> [u64; 8]
     ]
 }
 
+#[inline(always)]
 pub fn user_defined_type(x: &UserDefinedTypeSymbol, consumed: u64) -> [u64; 5]
     ensures { result ≡ record_words (SymbolData.UserDefinedType x.now) consumed }
 {
@@ -52,6 +55,7 @@ pub fn user_defined_type(x: &UserDefinedTypeSymbol, consumed: u64) -> [u64; 5]
     ]
 }
 
+#[inline(always)]
 pub fn multi_register_variable(x: &MultiRegisterVariableSymbol, consumed: u64) -> [u64; 5]
     ensures { result ≡ record_words (SymbolData.MultiRegisterVariable x.now) consumed }
 {
@@ -64,6 +68,7 @@ pub fn multi_register_variable(x: &MultiRegisterVariableSymbol, consumed: u64) -
     ]
 }
 
+#[inline(always)]
 pub fn data_item(x: &DataSymbol, consumed: u64) -> [u64; 9]
     ensures { result ≡ record_words (SymbolData.Data x.now) consumed }
 {
@@ -80,6 +85,7 @@ pub fn data_item(x: &DataSymbol, consumed: u64) -> [u64; 9]
     ]
 }
 
+#[inline(always)]
 pub fn thread_storage(x: &ThreadStorageSymbol, consumed: u64) -> [u64; 8]
     ensures { result ≡ record_words (SymbolData.ThreadStorage x.now) consumed }
 {
@@ -95,6 +101,7 @@ pub fn thread_storage(x: &ThreadStorageSymbol, consumed: u64) -> [u64; 8]
     ]
 }
 
+#[inline(always)]
 pub fn local(x: &LocalSymbol, consumed: u64) -> [u64; 6]
     ensures { result ≡ record_words (SymbolData.Local x.now) consumed }
 {
@@ -108,6 +115,7 @@ pub fn local(x: &LocalSymbol, consumed: u64) -> [u64; 6]
     ]
 }
 
+#[inline(always)]
 pub fn register_relative(x: &RegisterRelativeSymbol, consumed: u64) -> [u64; 7]
     ensures { result ≡ record_words (SymbolData.RegisterRelative x.now) consumed }
 {

@@ -26,9 +26,8 @@ use data_words::{
 use records::SymbolData;
 use words::put;
 
-/// Stores the words of a record, one store for each. The record is lent and the function not inlined: at a caller that has made the record
-/// the back end would take it apart before it is matched.
-#[inline(never)]
+/// Stores the words of a record, one store for each. It is inlined where a record of one class was made, so that the rest goes.
+#[inline(always)]
 pub fn write_record(d: &SymbolData, consumed: usize, out: &mut [u64; 24])
     ensures { out.new ≡ written (record_words d.now consumed) out.old }
 {

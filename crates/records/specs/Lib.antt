@@ -1,3 +1,4 @@
+pub mod Decoded
 pub mod Field
 pub mod Flags
 pub mod Name

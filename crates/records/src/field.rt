@@ -1,5 +1,5 @@
 // Fields that several records share, or that stand for something else than their number.
-ghost use Rattle.std.specs.Prelude.{◌≡◌};
+ghost use Rattle.std.specs.Prelude.{◌≡◌, OnErr};
 ghost use Rattle.common.specs.Buffer.{Reads};
 ghost use Rattle.records.specs.Field.{index_of, index, module_of, module_index, place};
 
@@ -21,28 +21,33 @@ pub fn module_of(x: u16) -> Option<u16>
     x.checked_sub(1)
 }
 
-/// Reads a parent or a next.
+/// Reads a parent or a next, or moves nothing.
 #[inline(always)]
 pub fn parse_optional_index(buf: &mut ParseBuffer) -> Result<Option<u32>, Refusal>
-    ensures { Reads index buf.old result buf.new }
+    ensures reads { Reads index buf.old result buf.new }
+    ensures stays { OnErr result (buf.new.pos ≡ buf.old.pos) }
 {
     Ok(index_of(buf.parse()?))
 }
 
-/// Reads a module.
+/// Reads a module, or moves nothing.
 #[inline(always)]
 pub fn parse_module(buf: &mut ParseBuffer) -> Result<Option<u16>, Refusal>
-    ensures { Reads module_index buf.old result buf.new }
+    ensures reads { Reads module_index buf.old result buf.new }
+    ensures stays { OnErr result (buf.new.pos ≡ buf.old.pos) }
 {
     Ok(module_of(buf.parse()?))
 }
 
-/// Reads a place in the program.
+/// Reads a place in the program, or moves nothing.
 #[inline(always)]
 pub fn parse_place(buf: &mut ParseBuffer) -> Result<SectionOffset, Refusal>
-    ensures { Reads place buf.old result buf.new }
+    ensures reads { Reads place buf.old result buf.new }
+    ensures stays { OnErr result (buf.new.pos ≡ buf.old.pos) }
 {
-    let offset = buf.parse()?;
-    let section = buf.parse()?;
+    let mut ahead = *buf;
+    let offset = ahead.parse()?;
+    let section = ahead.parse()?;
+    *buf = ahead;
     Ok(SectionOffset { offset, section })
 }

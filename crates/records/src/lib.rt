@@ -472,6 +472,7 @@ pub enum SymbolData {
 
 impl SymbolData {
     /// The name of the record; none for registers, register lists and compile flags, whatever name they hold.
+    #[inline(always)]
     pub fn name(&self) -> Option<Part>
         ensures { result ≡ name_in self.now }
     {

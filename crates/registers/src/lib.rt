@@ -6,18 +6,21 @@
 
 pub mod entry;
 
-ghost use Rattle.std.specs.Prelude.{◌≡◌};
+ghost use Rattle.std.specs.Prelude.{◌≡◌, OnErr};
+ghost use Rattle.records.specs.Decoded.{decoded_as};
+ghost use Rattle.records.specs.declared.SymbolData.TheVariants as SymbolData;
 ghost use Rattle.common.specs.Buffer.{Reads};
 ghost use Rattle.registers.specs.Registers.{register_count, multi_register_variable};
 
 use common::Refusal;
 use common::buffer::ParseBuffer;
 use constants::{S_MANYREG2, S_MANYREG2_ST};
-use records::{Decoded, MultiRegisterVariableSymbol, SymbolData};
+use records::MultiRegisterVariableSymbol;
 
-/// Reads how many entries a list has.
+/// Reads how many entries a list has, or moves nothing.
 pub fn parse_register_count(buf: &mut ParseBuffer, kind: u16) -> Result<u16, Refusal>
-    ensures { Reads (register_count kind) buf.old result buf.new }
+    ensures reads { Reads (register_count kind) buf.old result buf.new }
+    ensures stays { OnErr result (buf.new.pos ≡ buf.old.pos) }
 {
     if matches!(kind, S_MANYREG2 | S_MANYREG2_ST) {
         return buf.parse();
@@ -25,17 +28,21 @@ pub fn parse_register_count(buf: &mut ParseBuffer, kind: u16) -> Result<u16, Ref
     Ok(u16::from(buf.parse::<u8>()?))
 }
 
-pub fn parse_multi_register_variable(buf: &mut ParseBuffer, kind: u16) -> Decoded
-    ensures { result ≡ multi_register_variable kind buf.old.bytes.now buf.old.pos }
+#[inline(always)]
+pub fn parse_multi_register_variable(
+    mut buf: ParseBuffer,
+    kind: u16,
+) -> Result<(MultiRegisterVariableSymbol, usize), Refusal>
+    ensures { decoded_as SymbolData.MultiRegisterVariable result ≡ multi_register_variable kind buf.entry.bytes.now buf.entry.pos }
 {
     let type_index = buf.parse()?;
-    let count = parse_register_count(buf, kind)?;
+    let count = parse_register_count(&mut buf, kind)?;
     let first = buf.pos;
-    entry::skip_entries(buf, kind, count)?;
-    let data = MultiRegisterVariableSymbol {
+    entry::skip_entries(&mut buf, kind, count)?;
+    let multi_register_variable = MultiRegisterVariableSymbol {
         type_index,
         count,
         first,
     };
-    Ok((SymbolData::MultiRegisterVariable(data), buf.pos))
+    Ok((multi_register_variable, buf.pos))
 }

@@ -1,19 +1,29 @@
 // The name of a record (pdb's SymbolData::name).
-#![tactic(auto, unfolding(crate::specs::Name::name_of))]
+#![tactic(auto, unfolding(crate::specs::Name::name_of, crate::specs::Decode::decode))]
 
 ghost use Rattle.std.specs.Prelude.{◌≡◌};
-ghost use Rattle.symbol.specs.Name.{name_of};
+ghost use Rattle.records.specs.Name.{name_in};
+ghost use Rattle.symbol.specs.Name.{answered, name_of};
 ghost use Rattle.symbol.specs.Bytes.{IsName};
 
 use common::Refusal;
 use names::{Part, as_bytes};
+use records::Decoded;
+
+/// The name of what decode answers.
+#[inline(always)]
+fn named(decoded: Decoded) -> Result<Option<Part>, Refusal>
+    ensures { result ≡ answered name_in decoded }
+{
+    let (data, _) = decoded?;
+    Ok(data.name())
+}
 
 /// The part of the record that is its name, or none; or decode's refusal.
 pub fn name(s: &[u8]) -> Result<Option<Part>, Refusal>
     ensures { result ≡ name_of s.now }
 {
-    let (data, _) = super::decode(s)?;
-    Ok(data.name())
+    decode_to!(s, named)
 }
 
 /// The bytes of the name; the empty part where there is none, or where name refuses.

@@ -1,6 +1,7 @@
 // The numeric value of a constant (pdb's Variant): a prefix that is the value itself, or that says how the bytes after it are read.
 #![tactic(auto)]
 
+ghost use Rattle.std.specs.Prelude.{◌≡◌, OnErr};
 ghost use Rattle.common.specs.Buffer.{Reads};
 ghost use Rattle.variant.specs.Numeric.{leaf, numeric};
 
@@ -36,9 +37,10 @@ pub enum Variant {
     I64(i64),
 }
 
-/// Reads what follows a prefix of LF_NUMERIC and above.
+/// Reads what follows a prefix of LF_NUMERIC and above, or moves nothing.
 fn parse_leaf(buf: &mut ParseBuffer, prefix: u16) -> Result<Variant, Refusal>
-    ensures { Reads (leaf prefix) buf.old result buf.new }
+    ensures reads { Reads (leaf prefix) buf.old result buf.new }
+    ensures stays { OnErr result (buf.new.pos ≡ buf.old.pos) }
 {
     match prefix {
         LF_CHAR => Ok(Variant::U8(buf.parse()?)),
@@ -52,13 +54,18 @@ fn parse_leaf(buf: &mut ParseBuffer, prefix: u16) -> Result<Variant, Refusal>
     }
 }
 
-/// Reads a numeric value.
+/// Reads a numeric value, or moves nothing.
 pub fn parse_variant(buf: &mut ParseBuffer) -> Result<Variant, Refusal>
-    ensures { Reads numeric buf.old result buf.new }
+    ensures reads { Reads numeric buf.old result buf.new }
+    ensures stays { OnErr result (buf.new.pos ≡ buf.old.pos) }
 {
-    let prefix = buf.parse()?;
-    if prefix < LF_NUMERIC {
-        return Ok(Variant::U16(prefix));
-    }
-    parse_leaf(buf, prefix)
+    let mut ahead = *buf;
+    let prefix = ahead.parse()?;
+    let value = if prefix < LF_NUMERIC {
+        Variant::U16(prefix)
+    } else {
+        parse_leaf(&mut ahead, prefix)?
+    };
+    *buf = ahead;
+    Ok(value)
 }

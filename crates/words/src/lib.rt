@@ -27,6 +27,7 @@ pub fn bits(flags: &[bool]) -> u64
 }
 
 /// Stores the words from place 0 on. The places behind them stay as they were.
+#[inline(always)]
 pub fn put<const N: usize>(out: &mut [u64], words: [u64; N])
     requires { N ≤ length out.old }
     ensures { out.new ≡ written words.entry out.old }

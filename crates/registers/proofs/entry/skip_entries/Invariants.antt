@@ -5,5 +5,5 @@ use Rattle.registers.proofs.entry.skip_entries.Given as goal
 
 abbrev pub invariant-loop : goal.invariant-loop
 invariant-loop l =
-    (l.buf.bytes ≡ l.initial.buf.bytes)
-    × (skip l.kind (l.n - l.counter) l.buf.bytes.now l.buf.pos ≡ skip l.kind l.n l.initial.buf.bytes.now l.initial.buf.pos)
+    (l.ahead.bytes ≡ l.initial.ahead.bytes)
+    × (skip l.kind (l.n - l.counter) l.ahead.bytes.now l.ahead.pos ≡ skip l.kind l.n l.initial.ahead.bytes.now l.initial.ahead.pos)
